@@ -1,0 +1,5 @@
+pub mod Limits
+pub mod Kept
+pub mod Bytes
+pub mod Messages
+pub mod Machine
