@@ -31,13 +31,13 @@ pub record LegalHeader (h : FileHeader) : Type 0 where
   pub epoch : is_counter h.epoch ≡ true
   pub name : is_name h.kind h.name ≡ true
 
-less_of : (m n : ℕ) → ltb m n ≡ true → m < n
+pub less_of : (m n : ℕ) → ltb m n ≡ true → m < n
 less_of m n h = ltb→lt m n (subst T (sym h) tt)
 
-most_of : (m n : ℕ) → leb m n ≡ true → m ≤ n
+pub most_of : (m n : ℕ) → leb m n ≡ true → m ≤ n
 most_of m n h = leb→le m n (subst T (sym h) tt)
 
-legal_parts : (h : FileHeader) → is_legal_header h ≡ true → LegalHeader h
+pub legal_parts : (h : FileHeader) → is_legal_header h ≡ true → LegalHeader h
 legal_parts h e =
     let a = and_parts _ _ e in
     let b = and_parts _ _ a.0 in
@@ -48,19 +48,19 @@ legal_parts h e =
     let k = and_parts _ _ g.0 in
     record { serial = less_of h.serial (2 ^ 64) k.0; rid = k.1; part = g.1; kib = f.1; first = d.1; number = c.1; epoch = b.1; name = a.1 }
 
-part_fits : (n : ℕ) → is_partition n ≡ true → n < 2 ^ 32
+pub part_fits : (n : ℕ) → is_partition n ≡ true → n < 2 ^ 32
 part_fits n e = let l = most_of n 999 (and_parts _ _ e).1 in lt_of_le_of_lt l (lit< tt)
 
-kib_fits : (n : ℕ) → is_kib n ≡ true → n < 2 ^ 32
+pub kib_fits : (n : ℕ) → is_kib n ≡ true → n < 2 ^ 32
 kib_fits n e = let l = most_of n 65536 (and_parts _ _ (and_parts _ _ e).0).1 in lt_of_le_of_lt l (lit< tt)
 
-counter_fits : (n : ℕ) → is_counter n ≡ true → n < 2 ^ 64
+pub counter_fits : (n : ℕ) → is_counter n ≡ true → n < 2 ^ 64
 counter_fits n e = let l = less_of n (2 ^ 62) (and_parts _ _ e).1 in omega (arith, l)
 
 kib_most : (n : ℕ) → is_kib n ≡ true → n ≤ 65536
 kib_most n e = most_of n 65536 (and_parts _ _ (and_parts _ _ e).0).1
 
-first_fits : (kib n : ℕ) → is_kib kib ≡ true → is_first_place kib n ≡ true → n < 2 ^ 64
+pub first_fits : (kib n : ℕ) → is_kib kib ≡ true → is_first_place kib n ≡ true → n < 2 ^ 64
 first_fits kib n k e = by (eqb n 0) (leb 4096 n) (leb (n + 128) (4096 + 1024 * kib)) refl refl e
   where
     by : (a b c : Bool) → eqb n 0 ≡ a → leb (n + 128) (4096 + 1024 * kib) ≡ c → (a || (b && c && eqb (n % 128) 0)) ≡ true → n < 2 ^ 64
@@ -69,7 +69,7 @@ first_fits kib n k e = by (eqb n 0) (leb 4096 n) (leb (n + 128) (4096 + 1024 * k
     by false true false z l e = absurd (cc)
     by false false c z l e = absurd (cc)
 
-name_fits : (kind : JournalKind) (name : List ℕ) → is_name kind name ≡ true → length name ≤ 200
+pub name_fits : (kind : JournalKind) (name : List ℕ) → is_name kind name ≡ true → length name ≤ 200
 name_fits Queue name e = most_of (length name) 200 (and_parts _ _ (and_parts _ _ e).0).1
 name_fits Listed name e = let zero_is : length name ≡ 0 = eqb→eq (length name) 0 (subst T (sym e) tt) in omega arith
 

@@ -22,11 +22,15 @@ abbrev pub kind_number : JournalKind → ℕ
 kind_number Queue = 1
 kind_number Listed = 2
 
+-- sixty bytes of numbers
+abbrev pub header_numbers : FileHeader → List ℕ
+header_numbers h =
+    codes "QLSf" ++ u16 (version_of h) ++ u16 0 ++ u64 h.serial ++ u64 h.rid ++ u32 h.part ++ u32 h.kib ++ u64 h.first
+    ++ u64 h.number ++ u64 h.epoch ++ u16 (kind_number h.kind) ++ u16 (length h.name)
+
 -- the bytes that the checksum covers
 abbrev pub header_front : FileHeader → List ℕ
-header_front h =
-    codes "QLSf" ++ u16 (version_of h) ++ u16 0 ++ u64 h.serial ++ u64 h.rid ++ u32 h.part ++ u32 h.kib ++ u64 h.first
-    ++ u64 h.number ++ u64 h.epoch ++ u16 (kind_number h.kind) ++ u16 (length h.name) ++ h.name
+header_front h = header_numbers h ++ h.name
 
 -- with the checksum, and zeros up to 4,096
 abbrev pub header_spelling : FileHeader → List ℕ
