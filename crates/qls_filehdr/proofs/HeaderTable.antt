@@ -1,6 +1,6 @@
 -- The numbers of a header, as its table puts them.
-use Rattle.std.proofs.Common.{◌≡◌, ℕ, ◌+◌, ◌-◌, ◌<◌, ◌≤◌, ◌^◌, true, List, [], ◌∷◌, ◌++◌, length, take, drop, replicate, refl, sym, ap, ap₂, subst, ◌∙◌, arith, append_assoc, length-append, length-drop, lt_of_le_of_lt, lit<}
-use Rattle.std.proofs.Math.Seq.{take-append_seam, drop-append_seam}
+use Rattle.std.proofs.Common.{◌≡◌, ℕ, ◌+◌, ◌-◌, ◌<◌, ◌≤◌, ◌^◌, true, List, [], ◌∷◌, ◌++◌, length, take, drop, replicate, refl, sym, ap, ap₂, subst, ◌∙◌, arith, length-append, length-drop, lit<}
+use Rattle.std.proofs.Math.Seq.{take-append_seam}
 use Rattle.qls_shape.specs.Adler.{adler_of}
 use Rattle.qls_shape.specs.Fields.{u32}
 use Rattle.qls_shape.specs.Tables.{Table, Fit, with_numbers, spelled}
@@ -11,7 +11,7 @@ use Rattle.qls_filehdr.specs.declared.FileHeader.{FileHeader}
 use Rattle.qls_filehdr.specs.Limits.{is_legal_header}
 use Rattle.qls_filehdr.specs.Header.{kind_number, header_numbers, header_front, header_spelling}
 use Rattle.qls_filehdr.specs.Table.{header_table}
-use Rattle.qls_filehdr.proofs.HeaderTrip.{LegalHeader, legal_parts, less_of, part_fits, kib_fits, first_fits, counter_fits, name_fits}
+use Rattle.qls_filehdr.proofs.HeaderTrip.{legal_parts, less_of, part_fits, kib_fits, first_fits, counter_fits, name_fits}
 
 -- the twelve numbers of a header
 abbrev numbers : FileHeader → ℕ → ℕ → ℕ → ℕ → List ℕ
@@ -26,24 +26,46 @@ module _ (h : FileHeader) (part kib kind size : ℕ) (p : part ≡ h.part) (d : 
   -- each fits its field
   pub numbers_fit : (t : Table) → t ≡ header_table → is_legal_header h ≡ true → Fit t.fields (numbers h part kib kind size)
   numbers_fit t e legal =
-    let parts = legal_parts h legal in
-    let rid = less_of h.rid (2 ^ 62) parts.rid in
-    let part_size = part_fits h.part parts.part in
-    let kib_size = kib_fits h.kib parts.kib in
-    let kind_size = kind_fits h.kind in
-    let name_size = name_fits h.kind h.name parts.name in
-    let fit : Fit header_table.fields (numbers h part kib kind size) =
-    (lit< tt, (lit< tt, (lit< tt, (parts.serial, (omega (arith, rid), (omega (arith, p, part_size), (omega (arith, d, kib_size), (first_fits h.kib h.first parts.kib parts.first,
-    (counter_fits h.number parts.number, (counter_fits h.epoch parts.epoch, (omega (arith, k, kind_size), (omega (arith, s, name_size), tt)))))))))))) in
-    subst (λ (t : Table). Fit t.fields (numbers h part kib kind size)) (sym e) fit
+      let parts = legal_parts h legal in
+      let rid = less_of h.rid (2 ^ 62) parts.rid in
+      let part_size = part_fits h.part parts.part in
+      let kib_size = kib_fits h.kib parts.kib in
+      let kind_size = kind_fits h.kind in
+      let name_size = name_fits h.kind h.name parts.name in
+      let fit : Fit header_table.fields (numbers h part kib kind size) = (
+        lit< tt,
+        (
+          lit< tt,
+          (
+            lit< tt,
+            (
+              parts.serial,
+              (
+                omega (arith, rid),
+                (
+                  omega (arith, p, part_size),
+                  (
+                    omega (arith, d, kib_size),
+                    (
+                      first_fits h.kib h.first parts.kib parts.first,
+                      (counter_fits h.number parts.number, (counter_fits h.epoch parts.epoch, (omega (arith, k, kind_size), (omega (arith, s, name_size), tt)))),
+                    ),
+                  ),
+                ),
+              ),
+            ),
+          ),
+        ),
+      ) in
+      subst (λ (t : Table). Fit t.fields (numbers h part kib kind size)) (sym e) fit
 
   -- put into the first sixty bytes
   pub numbers_put : (t : Table) (bytes : List ℕ) → t ≡ header_table → 60 ≤ length bytes → with_numbers t.fields (numbers h part kib kind size) bytes ≡ header_numbers h ++ drop 60 bytes
   numbers_put t bytes e room =
-    ap (λ t. with_numbers t.fields (numbers h part kib kind size) bytes) e
-    ∙ with_numbers-joined 0 60 header_table.fields (numbers h part kib kind size) bytes refl refl room
-    ∙ ap₂ (λ a b. spelled header_table.fields (numbers h a b kind size) ++ drop 60 bytes) p d
-    ∙ ap₂ (λ a b. spelled header_table.fields (numbers h h.part h.kib a b) ++ drop 60 bytes) k s
+      ap (λ t. with_numbers t.fields (numbers h part kib kind size) bytes) e
+      ∙ with_numbers-joined 0 60 header_table.fields (numbers h part kib kind size) bytes refl refl room
+      ∙ ap₂ (λ a b. spelled header_table.fields (numbers h a b kind size) ++ drop 60 bytes) p d
+      ∙ ap₂ (λ a b. spelled header_table.fields (numbers h h.part h.kib a b) ++ drop 60 bytes) k s
 
 -- the numbers, the name, the checksum and zeros, written one after another
 pub spelled_whole : (h : FileHeader) (old numbered named new : List ℕ) (size : ℕ) → length old ≡ 4096 → size ≡ length h.name → length h.name ≤ 200

@@ -69,9 +69,7 @@ fn kind_number(kind: JournalKind) -> u64
 /// Puts the checksum of the first bytes behind them, and zeros behind that.
 fn seal(end: usize, into: &mut [u8])
     requires room { end + 4 ≤ length into.old }
-    ensures exact {
-        into.new ≡ take end into.old ++ number_bytes (adler_of (take end into.old)) ++ replicate (length into.old - (end + 4)) 0
-    }
+    ensures exact { into.new ≡ take end into.old ++ number_bytes (adler_of (take end into.old)) ++ replicate (length into.old - (end + 4)) 0 }
 {
     let sum = adler(&into[..end]);
     LittleEndian::write_u32(&mut into[end..], sum);

@@ -1,11 +1,13 @@
 //! Reading a header, with the first rule that fails.
-ghost use Rattle.std.specs.Prelude.{◌≡◌, ◌≤◌, ◌<◌, ◌+◌, ◌-◌, ◌++◌, length, take, drop, IsTrue, Ok, Err, if◌then◌else◌};
+ghost use Rattle.std.specs.Prelude.{◌≡◌, ◌≤◌, ◌<◌, ◌+◌, ◌^◌, length, OnOk};
 ghost use Rattle.qls_shape.specs.Claims.{claim as claimed};
 ghost use Rattle.qls_shape.specs.Fields.{bytes_from};
-ghost use Rattle.qls_filehdr.specs.Limits.{is_name as name_limit};
-ghost use Rattle.qls_filehdr.specs.Header.{header_of, journal_kind as kind_of_number};
+ghost use Rattle.qls_filehdr.specs.Header.{header_of, number_claims, rest_claims, journal_kind as kind_of_number};
+ghost use Rattle.qls_filehdr.specs.Table.{numbers_at};
 
-use crate::limits::{are_name_bytes, are_zeros, is_counter, is_first_place, is_kib, is_partition};
+use crate::limits::{
+    are_counts, are_zeros, is_first_place, is_kib, is_kind, is_name, is_partition,
+};
 use crate::table::{FIXED, MAGIC, fixed};
 use crate::{FileHeader, JournalKind, Rule};
 use byteorder::{ByteOrder, LittleEndian};
@@ -18,35 +20,93 @@ impl FileHeader {
         requires size { length from.now ≡ 4096 }
         ensures exact { result ≡ header_of from.now }
     {
-        let [_, version, flags, serial, rid, part, kib, first, number, epoch, kind, name_length] =
-            fixed().get_fields(from);
-        claim(&from[..4] == MAGIC.as_slice(), Rule::Magic)?;
-        claim(version == 2, Rule::Version)?;
-        claim(flags == 0, Rule::Flags)?;
-        claim(is_partition(part), Rule::Partition)?;
-        claim(is_kib(kib), Rule::Kib)?;
-        claim(is_first_place(kib, first), Rule::Place)?;
-        let counts = rid < 1 << 62 && is_counter(number) && is_counter(epoch);
-        claim(counts, Rule::Counter)?;
-        claim(1 <= kind && kind <= 2, Rule::Kind)?;
-        let kind = journal_kind(kind);
-        let name = read_name(kind, name_length as usize, from)?;
-        let end = FIXED + name_length as usize;
-        let sum = LittleEndian::read_u32(&from[end..]);
-        claim(sum == adler(&from[..end]), Rule::Checksum)?;
-        claim(are_zeros(&from[end + 4..]), Rule::Zeros)?;
+        let numbers = numbers_of(from);
+        check_numbers(&numbers, from)?;
+        let kind = journal_kind(numbers.kind);
+        let name = name_bytes(numbers.name_size, from);
+        claim(is_name(kind, name), Rule::Name)?;
+        check_rest(FIXED + name.len(), from)?;
         Ok(FileHeader {
-            serial,
-            rid,
-            part: part as u16,
-            kib: kib as u32,
-            first,
-            number,
-            epoch,
+            serial: numbers.serial,
+            rid: numbers.rid,
+            part: numbers.part as u16,
+            kib: numbers.kib as u32,
+            first: numbers.first,
+            number: numbers.number,
+            epoch: numbers.epoch,
             kind,
-            name,
+            name: Name::new(name).unwrap(),
         })
     }
+}
+
+/// The numbers of a header behind its magic, as they stand there.
+#[derive(Drop)]
+struct Numbers {
+    version: u64,
+    flags: u64,
+    serial: u64,
+    rid: u64,
+    part: u64,
+    kib: u64,
+    first: u64,
+    number: u64,
+    epoch: u64,
+    kind: u64,
+    name_size: u64,
+}
+
+/// The numbers that stand in the first bytes.
+fn numbers_of(from: &[u8]) -> Numbers
+    requires room { 60 ≤ length from.now }
+    ensures exact { result ≡ numbers_at from.now }
+{
+    let [
+        _,
+        version,
+        flags,
+        serial,
+        rid,
+        part,
+        kib,
+        first,
+        number,
+        epoch,
+        kind,
+        name_size,
+    ] = fixed().get_fields(from);
+    Numbers {
+        version,
+        flags,
+        serial,
+        rid,
+        part,
+        kib,
+        first,
+        number,
+        epoch,
+        kind,
+        name_size,
+    }
+}
+
+/// Tests the rules `magic` to `kind`.
+fn check_numbers(numbers: &Numbers, from: &[u8]) -> Result<(), Rule>
+    requires room { 60 ≤ length from.now }
+    requires numbers { numbers.now ≡ numbers_at from.now }
+    ensures exact { result ≡ number_claims from.now }
+    ensures part { OnOk result (numbers.now.part ≤ 999) }
+    ensures kib { OnOk result (numbers.now.kib ≤ 65536) }
+{
+    claim(&from[..4] == MAGIC.as_slice(), Rule::Magic)?;
+    claim(numbers.version == 2, Rule::Version)?;
+    claim(numbers.flags == 0, Rule::Flags)?;
+    claim(is_partition(numbers.part), Rule::Partition)?;
+    claim(is_kib(numbers.kib), Rule::Kib)?;
+    claim(is_first_place(numbers.kib, numbers.first), Rule::Place)?;
+    let counts = are_counts(numbers.rid, numbers.number, numbers.epoch);
+    claim(counts, Rule::Counter)?;
+    claim(is_kind(numbers.kind), Rule::Kind)
 }
 
 /// The rule is kept, or it is the answer.
@@ -67,29 +127,26 @@ fn journal_kind(number: u64) -> JournalKind
     }
 }
 
-/// The name of so many bytes behind the numbers, where a journal of this kind may have it.
-fn read_name(kind: JournalKind, size: usize, from: &[u8]) -> Result<Name, Rule>
-    requires size { length from.now ≡ 4096 }
-    ensures exact {
-        let name = bytes_from 60 size from.now in result ≡ (if name_limit kind name then Ok name else Err Rule.Name)
-    }
+/// The bytes behind the numbers, so many or as many as there are.
+fn name_bytes(size: u64, from: &[u8]) -> &[u8]
+    requires room { 60 ≤ length from.now }
+    ensures exact { result.now ≡ bytes_from 60 size from.now }
 {
-    if size > 200 {
-        return Err(Rule::Name);
+    let rest = &from[FIXED..];
+    if size < rest.len() as u64 {
+        &rest[..size as usize]
+    } else {
+        rest
     }
-    let bytes = &from[FIXED..FIXED + size];
-    if !is_name(kind, bytes) {
-        return Err(Rule::Name);
-    }
-    Name::new(bytes).ok_or(Rule::Name)
 }
 
-/// Whether a journal of this kind may have the name: a queue 1 to 200 bytes from `!` to `~`, the list none.
-fn is_name(kind: JournalKind, name: &[u8]) -> bool
-    ensures exact { result ≡ name_limit kind name.now }
+/// Tests what follows the name, which ends at `end`: the checksum of all before it, and zeros.
+fn check_rest(end: usize, from: &[u8]) -> Result<(), Rule>
+    requires size { length from.now ≡ 4096 }
+    requires room { end + 4 ≤ 4096 }
+    ensures exact { result ≡ rest_claims end from.now }
 {
-    match kind {
-        JournalKind::Queue => 1 <= name.len() && name.len() <= 200 && are_name_bytes(name),
-        JournalKind::List => name.is_empty(),
-    }
+    let sum = LittleEndian::read_u32(&from[end..]);
+    claim(sum == adler(&from[..end]), Rule::Checksum)?;
+    claim(are_zeros(&from[end + 4..]), Rule::Zeros)
 }
