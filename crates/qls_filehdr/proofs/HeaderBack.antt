@@ -1,19 +1,17 @@
 -- What is read has its spelling there, and is legal.
-use Rattle.std.proofs.Common.{◌≡◌, ℕ, zero, suc, ◌+◌, ◌-◌, ◌*◌, ◌<◌, ◌≤◌, ◌^◌, Bool, true, false, ◌&&◌, eqb, eqb→eq, T, List, [], ◌∷◌, ◌++◌, length, take, drop, replicate, get_or, Result, Ok, Err, refl, sym, ap, ap₂, subst, ◌∙◌, arith, append_assoc, length-take, length-drop, take-append-drop, drop-drop, take_all, length-append, ltb, leb, leb→le, lt→ltb, codes, lit<}
+use Rattle.std.proofs.Common.{◌≡◌, ℕ, zero, suc, ◌+◌, ◌-◌, ◌<◌, ◌≤◌, ◌^◌, Bool, true, false, ◌&&◌, eqb, eqb→eq, T, List, [], ◌∷◌, ◌++◌, length, take, drop, replicate, get_or, Result, Ok, Err, refl, sym, ap, ap₂, subst, ◌∙◌, arith, append_assoc, length-take, length-drop, take-append-drop, drop-drop, take_all, ltb, leb, leb→le, lt→ltb, codes}
 use Rattle.std.proofs.Math.Seq.{take-append_seam, take-add}
 use Rattle.std.proofs.lemmas.Bool.{and_parts, and_from}
 use Rattle.std.proofs.lemmas.List.{length-take-le}
 use Rattle.std.specs.List.{list_all}
-use Rattle.std.specs.Int.{w16, w32, w64, from_le_bytes, to_le_bytes}
+use Rattle.std.specs.Int.{w16, w32, w64, from_le_bytes}
 use Rattle.qls_model.specs.Bytes.{same}
 use Rattle.qls_shape.specs.Adler.{adler_of}
 use Rattle.qls_shape.specs.Fields.{u32, number_at}
-use Rattle.qls_shape.specs.Tables.{numbers_of, with_numbers, spelled}
+use Rattle.qls_shape.specs.Tables.{numbers_of, spelled}
 use Rattle.qls_shape.specs.Claims.{claim, ◌>>◌}
 use Rattle.qls_shape.proofs.TableTrip.{bytes_back, small_drop, small_take, with_numbers-numbers_of, with_numbers-joined}
 use Rattle.qls_model.specs.Limits.{is_partition, is_kib}
-use Rattle.qls_filehdr.specs.declared.JournalKind.{JournalKind}
-use Rattle.qls_filehdr.specs.declared.JournalKind.TheVariants.{Queue, List as Listed}
 use Rattle.qls_filehdr.specs.declared.FileHeader.{FileHeader}
 use Rattle.qls_filehdr.specs.declared.Rule.{Rule}
 use Rattle.qls_filehdr.specs.declared.Rule.TheVariants as rule
@@ -62,7 +60,7 @@ kind_there : (n : ℕ) → (leb 1 n && leb n 2) ≡ true → kind_number (journa
 kind_there zero h = absurd (cc)
 kind_there (suc zero) h = refl
 kind_there (suc (suc zero)) h = refl
-kind_there (suc (suc (suc n))) h = let most : suc (suc (suc n)) ≤ 2 = leb→le (suc (suc (suc n))) 2 (subst T (sym (and_parts _ _ h).1) tt) in absurd (omega (arith, most))
+kind_there (suc (suc (suc n))) h = let most : suc (suc (suc n)) ≤ 2 = leb→le (suc (suc (suc n))) 2 (subst T (sym (and_parts (leb 1 (suc (suc (suc n)))) (leb (suc (suc (suc n))) 2) h).1) tt) in absurd (omega (arith, most))
 
 number_small : (bytes : List ℕ) (at : ℕ) → ((i : ℕ) → get_or bytes i 0 < 256) → number_at w64 at bytes < 2 ^ 64
 number_small bytes at small =

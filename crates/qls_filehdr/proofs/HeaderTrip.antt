@@ -55,7 +55,7 @@ pub kib_fits : (n : ℕ) → is_kib n ≡ true → n < 2 ^ 32
 kib_fits n e = let l = most_of n 65536 (and_parts _ _ (and_parts _ _ e).0).1 in lt_of_le_of_lt l (lit< tt)
 
 pub counter_fits : (n : ℕ) → is_counter n ≡ true → n < 2 ^ 64
-counter_fits n e = let l = less_of n (2 ^ 62) (and_parts _ _ e).1 in omega (arith, l)
+counter_fits n e = let l : n < 2 ^ 62 = less_of n (2 ^ 62) (and_parts (leb 1 n) (ltb n (2 ^ 62)) e).1 in omega (arith, l)
 
 kib_most : (n : ℕ) → is_kib n ≡ true → n ≤ 65536
 kib_most n e = most_of n 65536 (and_parts _ _ (and_parts _ _ e).0).1
