@@ -1,28 +1,24 @@
 -- The header that stands at the front, told from its numbers.
 use Rattle.std.proofs.Common.{◌≡◌, ℕ, ◌+◌, ◌-◌, ◌^◌, ◌<◌, ◌≤◌, Bool, true, false, cond, ◌&&◌, List, [], ◌∷◌, ◌++◌, map, length, take, drop, get_or, Option, Some, None, refl, sym, ap, ◌∙◌, subst, arith, eqb, nat_eq, eq-eqb, lit<, ap₂}
-use Rattle.std.proofs.lemmas.Bool.{and_from}
+use Rattle.std.proofs.lemmas.Bool.{and_from, eqb-true}
+use Rattle.std.proofs.lemmas.Nat.{from_le_bytes-to_le_bytes_4}
 use Rattle.std.specs.List.{starts_with}
 use Rattle.std.specs.Cmp.Lexicographic.{bytes_decides, pointwise}
 use Rattle.std.specs.Int.{w16, w32, w64, Width, byte_len, to_le_bytes, from_le_bytes}
 use Rattle.qls_model.specs.Bytes.{same}
 use Rattle.qls_shape.specs.Fields.{number_at, version_number}
+use Rattle.qls_shape.specs.Tables.{numbers_of}
+use Rattle.qls_record.specs.declared.tables.TheConstants.{RECORD}
 use Rattle.qls_shape.specs.declared.Version.{Version}
 use Rattle.qls_shape.specs.declared.Version.TheVariants.{Two, Three}
 use Rattle.qls_record.specs.declared.Kind.{Kind}
 use Rattle.qls_record.specs.declared.Kind.TheVariants.{Enqueue, Dequeue, Commit, Abort, Filler}
 use Rattle.qls_record.specs.declared.Head.{Head}
 use Rattle.qls_record.specs.Record.{header_length}
-use Rattle.qls_record.specs.Spelling.{magic, flags, kind_of}
-use Rattle.qls_record.specs.Head.{head_numbers, head_bytes, head_fields}
-use Rattle.qls_record.proofs.Stands.{AreBytes, joined, all_there, widths, AllHaveFields, fields_stand, has_64, has_32, bytes_there_32}
-
--- a kind's magic as a number
-abbrev pub magic_number : Kind → ℕ
-magic_number Enqueue = 0x65534c51
-magic_number Dequeue = 0x64534c51
-magic_number Commit = 0x63534c51
-magic_number Abort = 0x61534c51
-magic_number Filler = 0x78534c51
+use Rattle.qls_record.specs.Spelling.{magic, magic_number, flags, kind_of}
+use Rattle.qls_record.specs.Head.{head_numbers, head_bytes, head_fields, head_at, head_of_kind, is_legal_head}
+use Rattle.qls_record.proofs.Stands.{AreBytes, joined, all_there, widths, AllHaveFields, fields_stand, has_64, has_32, bytes_there_32, same_test, too_short}
+use Rattle.qls_record.proofs.RecordLength.{least_header}
 
 abbrev number_64 : ℕ → Width × ℕ
 number_64 n = (w64, n)
@@ -62,15 +58,8 @@ kind_of-magic m kind h =
     (told m (magic Abort) Abort kind _ (same m (magic Abort)) refl refl
     (told m (magic Filler) Filler kind None (same m (magic Filler)) refl refl (λ e. absurd (cc)))))) h
 
-magic-bytes : (k : Kind) → from_le_bytes w32 (magic k) ≡ magic_number k
-magic-bytes Enqueue = refl
-magic-bytes Dequeue = refl
-magic-bytes Commit = refl
-magic-bytes Abort = refl
-magic-bytes Filler = refl
-
 pub magic_there : (kind : Kind) (xs : List ℕ) → kind_of (take 4 xs) ≡ Some kind → number_at w32 0 xs ≡ magic_number kind
-magic_there kind xs h = ap (from_le_bytes w32) (kind_of-magic (take 4 xs) kind h) ∙ magic-bytes kind
+magic_there kind xs h = ap (from_le_bytes w32) (kind_of-magic (take 4 xs) kind h)
 
 -- ---- the stamp: the version, the flags and the serial
 
@@ -143,3 +132,96 @@ head_stamped Abort s xs h small is fits =
 head_stamped Filler s xs h small is fits =
     fields_stand (header_numbers Two s (head_fields Filler xs)) 0 xs h (front_fit Filler false s xs [] (lit< tt) small h tt) fits
     ∙ stamped Filler s xs true is refl
+
+-- ---- the kind told from a number
+
+same_magic : (m : ℕ) (k : Kind) → m < 2 ^ 32 → (small : magic_number k < 2 ^ 32) → to_le_bytes w32 (magic_number k) ≡ magic k → same (to_le_bytes w32 m) (magic k) ≡ eqb m (magic_number k)
+same_magic m k h small e =
+    same_test (same (to_le_bytes w32 m) (magic k)) (eqb m (magic_number k))
+    (λ b. eq-eqb m (magic_number k) (sym (from_le_bytes-to_le_bytes_4 m h) ∙ ap (from_le_bytes w32) ((bytes_decides (to_le_bytes w32 m) (magic k)).0 b)))
+    (λ b. (bytes_decides (to_le_bytes w32 m) (magic k)).1 (ap (to_le_bytes w32) (eqb-true m (magic_number k) b) ∙ e))
+
+-- each kind by its number, and none by any other
+abbrev pub told_by_number : ℕ → Option Kind
+told_by_number m =
+    cond (eqb m 0x65534c51) (Some Enqueue) (cond (eqb m 0x64534c51) (Some Dequeue) (cond (eqb m 0x63534c51) (Some Commit)
+    (cond (eqb m 0x61534c51) (Some Abort) (cond (eqb m 0x78534c51) (Some Filler) None))))
+
+pub kind_of-number : (m : ℕ) → m < 2 ^ 32 → kind_of (to_le_bytes w32 m) ≡ told_by_number m
+kind_of-number m h =
+    let e = same_magic m Enqueue h (lit< tt) refl in
+    let d = same_magic m Dequeue h (lit< tt) refl in
+    let c = same_magic m Commit h (lit< tt) refl in
+    let a = same_magic m Abort h (lit< tt) refl in
+    let f = same_magic m Filler h (lit< tt) refl in
+    λ i. cond (e i) (Some Enqueue) (cond (d i) (Some Dequeue) (cond (c i) (Some Commit) (cond (a i) (Some Abort) (cond (f i) (Some Filler) None))))
+
+-- ---- where the header has no room
+
+pub length-head_bytes : (s : ℕ) (h : Head) → length (head_bytes Two s h) ≡ header_length Two h.kind
+length-head_bytes s h = by_kind h.kind h.flagged h.rid h.target h.xid_size h.body_size
+  where
+    by_kind : (k : Kind) (b : Bool) (r t x y : ℕ) → length (head_bytes Two s (headed k b r t x y)) ≡ header_length Two k
+    by_kind Enqueue b r t x y = refl
+    by_kind Dequeue b r t x y = refl
+    by_kind Commit b r t x y = refl
+    by_kind Abort b r t x y = refl
+    by_kind Filler b r t x y = refl
+
+pub field_kind : (k : Kind) (xs : List ℕ) → (head_fields k xs).kind ≡ k
+field_kind Enqueue xs = refl
+field_kind Dequeue xs = refl
+field_kind Commit xs = refl
+field_kind Abort xs = refl
+field_kind Filler xs = refl
+
+not_headed : (b c : Bool) (h : Head) → c ≡ false → cond (b && c) (Some h) None ≡ None
+not_headed true c h e = ap (λ c. cond c (Some h) None) e
+not_headed false c h e = refl
+
+-- no header where its bytes aren't there
+pub no_room : (s : ℕ) (xs : List ℕ) (k : Kind) → kind_of (take 4 xs) ≡ Some k → length xs < header_length Two k → head_at Two s xs ≡ None
+no_room s xs k is short =
+    let long : length (head_bytes Two s (head_fields k xs)) ≡ header_length Two k = length-head_bytes s (head_fields k xs) ∙ ap (header_length Two) (field_kind k xs) in
+    ap (head_of_kind Two s xs) is
+    ∙ not_headed (is_legal_head (head_fields k xs)) (starts_with nat_eq xs (head_bytes Two s (head_fields k xs))) (head_fields k xs) (too_short xs (head_bytes Two s (head_fields k xs)) (omega arith))
+
+pub least_two : (k : Kind) → 24 ≤ header_length Two k
+least_two k = least_header Two k
+
+-- none in fewer than 24 bytes
+pub too_few : (s : ℕ) (xs : List ℕ) → length xs < 24 → head_at Two s xs ≡ None
+too_few s xs short = go (kind_of (take 4 xs)) refl
+  where
+    go : (o : Option Kind) → kind_of (take 4 xs) ≡ o → head_at Two s xs ≡ None
+    go None e = ap (head_of_kind Two s xs) e
+    go (Some k) e = let least = least_two k in no_room s xs k e (omega arith)
+
+-- none where no kind's magic stands
+pub no_kind : (s : ℕ) (xs : List ℕ) → kind_of (take 4 xs) ≡ None → head_at Two s xs ≡ None
+no_kind s xs e = ap (head_of_kind Two s xs) e
+
+-- ---- what the calls have to show
+
+pub kind_there : (xs : List ℕ) (m : ℕ) (k : Option Kind) → AreBytes xs → 24 ≤ length xs → m ≡ number_at w32 0 xs → k ≡ kind_of (to_le_bytes w32 m) → k ≡ kind_of (take 4 xs)
+kind_there xs m k h room is e = e ∙ ap (λ n. kind_of (to_le_bytes w32 n)) is ∙ ap kind_of (bytes_there_32 xs 0 h (omega arith))
+
+pub stamp_there : (h : Head) (s : ℕ) (xs : List ℕ) → AreBytes xs → s < 2 ^ 64 → kind_of (take 4 xs) ≡ Some h.kind → header_length Two h.kind ≤ length xs → h ≡ head_fields h.kind xs
+    → starts_with nat_eq xs (head_bytes Two s h) ≡ stamp s h.flagged xs
+stamp_there h s xs small serial is room fields =
+    subst (λ q. starts_with nat_eq xs (head_bytes Two s q) ≡ stamp s q.flagged xs) (sym fields) (head_stamped h.kind s xs small serial is room)
+
+-- the three tests in a row
+pub three_tests : (a b c : Bool) → (a && (b && (c && true))) ≡ (a && b && c)
+three_tests true true true = refl
+three_tests true true false = refl
+three_tests true false c = refl
+three_tests false b c = refl
+
+-- the tests on the numbers that were got
+pub tested : (xs ns : List ℕ) (b : Bool) (s f : ℕ) (r : Bool) → ns ≡ numbers_of RECORD xs → f ≡ flags b
+    → r ≡ (eqb (get_or ns 1 0) 2 && (eqb (get_or ns 2 0) f && (eqb (get_or ns 3 0) s && true))) → r ≡ stamp s b xs
+tested xs ns b s f r numbers is e =
+    e
+    ∙ (λ i. eqb (get_or (numbers i) 1 0) 2 && (eqb (get_or (numbers i) 2 0) (is i) && (eqb (get_or (numbers i) 3 0) s && true)))
+    ∙ three_tests (eqb (number_at w16 4 xs) 2) (eqb (number_at w16 6 xs) (flags b)) (eqb (number_at w64 8 xs) s)

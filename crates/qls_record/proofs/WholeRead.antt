@@ -17,7 +17,7 @@ use Rattle.qls_record.specs.Record.{Record, is_legal, header_length, tail_length
 use Rattle.qls_record.specs.Spelling.{magic, flags, spelling, header, covered, tail, kind_of, fields_at, if_spelled, of_kind, record_at}
 use Rattle.qls_record.specs.Head.{head_of, is_legal_head, head_record_length, head_bytes, head_fields, if_headed, head_of_kind, head_at}
 use Rattle.qls_record.proofs.Stands.{AreBytes, stands-append, joined, all_there, widths, AllHaveFields, fields_stand, length-joined}
-use Rattle.qls_record.proofs.HeadRead.{head_bytes-joined, header_numbers}
+use Rattle.qls_record.proofs.HeadRead.{head_bytes-joined, header_numbers, field_kind, length-head_bytes}
 use Rattle.qls_record.proofs.HeadTrip.{header_is-head_bytes, same_legal, head_of_record_at, record_fits}
 use Rattle.qls_record.proofs.RecordLength.{length-header, length-tail}
 use Rattle.qls_record.proofs.RoundTrip.{made}
@@ -28,13 +28,6 @@ pub record Heads (s : ℕ) (xs : List ℕ) (h : Head) : Type 0 where
   pub fields : head_fields h.kind xs ≡ h
   pub legal : is_legal_head h ≡ true
   pub stands : starts_with nat_eq xs (head_bytes Two s h) ≡ true
-
-field_kind : (k : Kind) (xs : List ℕ) → (head_fields k xs).kind ≡ k
-field_kind Enqueue xs = refl
-field_kind Dequeue xs = refl
-field_kind Commit xs = refl
-field_kind Abort xs = refl
-field_kind Filler xs = refl
 
 pub head_at_heads : (s : ℕ) (xs : List ℕ) (h : Head) → head_at Two s xs ≡ Some h → Heads s xs h
 head_at_heads s xs h e = go (kind_of (take 4 xs)) refl e

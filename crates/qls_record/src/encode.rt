@@ -1,0 +1,1 @@
+//! Writing: a record's one spelling.

@@ -1,0 +1,63 @@
+//! The tables of the numbers in a record's header and tail.
+ghost use Rattle.std.specs.Prelude.{◌≡◌, IsTrue, Some};
+ghost use Rattle.qls_shape.specs.Tables.{is_table};
+
+use qls_shape::{Field, Layout};
+
+/// The version in the header of each record.
+pub const VERSION: u64 = 2;
+
+/// The flag that an enqueue or a dequeue may have.
+pub const FLAG: u64 = 0x10;
+
+/// How many bytes a tail has.
+pub const TAIL_LENGTH: usize = 24;
+
+/// Magic, version, flags, serial and rid: the whole header of a filler, and the front of every other.
+pub const RECORD: [Field; 5] = [
+    Field { at: 0, width: 4 },
+    Field { at: 4, width: 2 },
+    Field { at: 6, width: 2 },
+    Field { at: 8, width: 8 },
+    Field { at: 16, width: 8 },
+];
+
+/// The same and one number more: the header of a commit and of an abort.
+pub const RECORD_AND_ONE: [Field; 6] = [
+    Field { at: 0, width: 4 },
+    Field { at: 4, width: 2 },
+    Field { at: 6, width: 2 },
+    Field { at: 8, width: 8 },
+    Field { at: 16, width: 8 },
+    Field { at: 24, width: 8 },
+];
+
+/// The same and two numbers more: the header of an enqueue and of a dequeue.
+pub const RECORD_AND_TWO: [Field; 7] = [
+    Field { at: 0, width: 4 },
+    Field { at: 4, width: 2 },
+    Field { at: 6, width: 2 },
+    Field { at: 8, width: 8 },
+    Field { at: 16, width: 8 },
+    Field { at: 24, width: 8 },
+    Field { at: 32, width: 8 },
+];
+
+/// The magic inverted, the checksum, the serial and the rid.
+pub const TAIL: [Field; 4] = [
+    Field { at: 0, width: 4 },
+    Field { at: 4, width: 4 },
+    Field { at: 8, width: 8 },
+    Field { at: 16, width: 8 },
+];
+
+/// The table of fields that are one.
+pub fn table<const N: usize>(total: usize, fields: [Field; N]) -> Layout<N>
+    requires one { IsTrue (is_table total fields) }
+    ensures exact { result ≡ record { total = total; fields = fields.entry } }
+{
+    match Layout::checked(total, fields) {
+        Some(layout) => layout,
+        None => unreachable!(),
+    }
+}
