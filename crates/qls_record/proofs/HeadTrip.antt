@@ -1,6 +1,6 @@
 -- The head of a record that is spelled at the front.
 use Rattle.std.proofs.Common.{◌≡◌, ℕ, ◌+◌, ◌^◌, ◌<◌, ◌≤◌, Bool, true, false, cond, ◌&&◌, List, [], ◌∷◌, ◌++◌, length, take, drop, Option, Some, None, refl, sym, ap, ◌∙◌, subst, subst₂, append_assoc, arith, eqb, nat_eq, nat_le, nat_lt, lit<, replicate, length-append}
-use Rattle.std.proofs.lemmas.Bool.{and_parts, and_from}
+use Rattle.std.proofs.lemmas.Bool.{and_parts, and_from, leb-true}
 use Rattle.std.proofs.lemmas.Nat.{from_le_bytes-to_le_bytes_8}
 use Rattle.std.specs.List.{starts_with}
 use Rattle.std.specs.Int.{w16, w64, from_le_bytes}
@@ -105,3 +105,25 @@ record_fits s xs r h =
     let spells = record_at_spells Two s xs r h in
     let split = ap length (record_splits s xs r h) in
     omega (arith, split, head_length r spells.legal, length-spelling Two s r, length-append (spelling Two s r) (drop (length (spelling Two s r)) xs))
+
+-- ---- the limits of a legal head
+
+xid_within : (k : Kind) (n : ℕ) → n ≤ most_xid k → n ≤ 128
+xid_within Enqueue n h = h
+xid_within Dequeue n h = h
+xid_within Commit n h = h
+xid_within Abort n h = h
+xid_within Filler n h = omega arith
+
+body_within : (k : Kind) (n : ℕ) → n ≤ most_body k → n ≤ 1048576
+body_within Enqueue n h = h
+body_within Dequeue n h = omega arith
+body_within Commit n h = omega arith
+body_within Abort n h = omega arith
+body_within Filler n h = omega arith
+
+pub within_limits : (h : Head) → is_legal_head h ≡ true → (h.xid_size ≤ 128) × (h.body_size ≤ 1048576)
+within_limits h legal =
+    let a = and_parts _ _ legal in
+    let b = and_parts _ _ a.0 in
+    (xid_within h.kind h.xid_size (leb-true h.xid_size (most_xid h.kind) b.1), body_within h.kind h.body_size (leb-true h.body_size (most_body h.kind) a.1))

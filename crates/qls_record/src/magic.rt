@@ -1,7 +1,8 @@
 //! The magic of each kind: four ASCII bytes, here as the number that they are with the lowest byte first.
 ghost use Rattle.std.specs.Prelude.{◌≡◌, ◌<◌, ◌^◌};
 ghost use Rattle.qls_shape.specs.Fields.{u32};
-ghost use Rattle.qls_record.specs.Spelling.{kind_of, magic_number};
+ghost use Rattle.qls_record.specs.Spelling.{kind_of, magic_number, inverted_magic};
+ghost use Rattle.std.specs.Int.{from_le_bytes, w32};
 
 use crate::Kind;
 
@@ -27,6 +28,13 @@ pub fn magic_of(kind: Kind) -> u64
         Kind::Abort => ABORT,
         Kind::Filler => FILLER,
     }
+}
+
+/// The same with each bit inverted, as it stands in a tail.
+pub fn inverted_of(kind: Kind) -> u64
+    ensures exact { result ≡ from_le_bytes w32 (inverted_magic kind) }
+{
+    0xffff_ffff - magic_of(kind)
 }
 
 /// The kind of that magic; None exactly where it is none's.

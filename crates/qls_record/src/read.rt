@@ -1,19 +1,22 @@
 //! Reading: the head that stands at the front of some bytes, and whether the whole record stands there.
-ghost use Rattle.std.specs.Prelude.{◌≡◌, ◌≤◌, Some, length, take, option_map, nat_eq};
-ghost use Rattle.std.specs.List.{starts_with};
+ghost use Rattle.std.specs.Prelude.{◌≡◌, ◌≤◌, Some, length, take, option_map, nat_eq, ◌==◌, IfSome};
+ghost use Rattle.std.specs.List.{starts_with, list_all};
 ghost use Rattle.qls_shape.specs.declared.Version.TheVariants.{Two};
-ghost use Rattle.qls_record.specs.Record.{header_length};
-ghost use Rattle.qls_record.specs.Spelling.{kind_of, record_at, flags};
-ghost use Rattle.qls_record.specs.Head.{head_of, head_at, head_fields, head_bytes, is_legal_head};
+ghost use Rattle.qls_shape.specs.Adler.{adler_of};
+ghost use Rattle.qls_record.specs.Record.{header_length, tail_length};
+ghost use Rattle.qls_record.specs.Spelling.{kind_of, record_at, flags, spelling, fields_at, tail_with};
+ghost use Rattle.qls_record.specs.Head.{head_of, head_at, head_fields, head_bytes, is_legal_head, head_record_length};
 
-use crate::magic;
-use crate::tables::{FLAG, RECORD, RECORD_AND_ONE, RECORD_AND_TWO, VERSION, table};
-use crate::{Head, Kind, header_length};
+use crate::magic::{self, inverted_of};
+use crate::tables::{FLAG, RECORD, RECORD_AND_ONE, RECORD_AND_TWO, PADDING, TAIL, VERSION, table};
+use crate::{Head, Kind, covered_length, header_length, length, tail_length};
+use qls_shape::adler;
 
 /// The head of the record whose header stands at the front of `from`, for the serial. None exactly where no
 /// legal header with that serial stands there. The rest of the record may be missing or wrong.
 pub fn read_head(from: &[u8], serial: u64) -> Option<Head>
-    ensures { result ≡ head_at Two serial from.now }
+    ensures exact { result ≡ head_at Two serial from.now }
+    ensures limits { IfSome result (λ h. (h.xid_size ≤ 128) × (h.body_size ≤ 1048576)) }
 {
     if from.len() < 24 {
         return None;
@@ -23,11 +26,61 @@ pub fn read_head(from: &[u8], serial: u64) -> Option<Head>
         return None;
     }
     let head = fields_at(kind, from);
-    if is_legal(head) && is_stamped(&head, serial, from) {
+    if is_legal(head) && is_stamped(head, serial, from) {
         Some(head)
     } else {
         None
     }
+}
+
+/// The head of the record that stands whole at the front of `from`, for the serial. None exactly where no
+/// spelling for that serial stands there: header, transaction id, body, tail and padding are all compared.
+pub fn read_whole(from: &[u8], serial: u64) -> Option<Head>
+    ensures exact { result ≡ option_map head_of (record_at Two serial from.now) }
+    ensures limits { IfSome result (λ h. (h.xid_size ≤ 128) × (h.body_size ≤ 1048576)) }
+{
+    let head = read_head(from, serial)?;
+    if (from.len() as u64) < length(&head) {
+        return None;
+    }
+    if is_spelled(head, serial, from) {
+        Some(head)
+    } else {
+        None
+    }
+}
+
+/// Whether the record of that head, which stands at the front, is spelled there.
+fn is_spelled(head: Head, serial: u64, from: &[u8]) -> bool
+    requires headed { head_at Two serial from.now ≡ Some head }
+    requires xid { head.xid_size ≤ 128 }
+    requires body { head.body_size ≤ 1048576 }
+    requires room { head_record_length head ≤ length from.now }
+    ensures exact { result ≡ starts_with nat_eq from.now (spelling Two serial (fields_at Two head.kind from.now)) }
+{
+    let covered = covered_length(&head);
+    let end = covered + tail_length(head.kind);
+    let whole = length(&head) as usize;
+    has_tail(head, serial, &from[..covered], &from[covered..]) && is_padding(&from[end..whole])
+}
+
+/// Whether the tail of that head stands at the front of `from`, behind the bytes that its checksum covers.
+fn has_tail(head: Head, serial: u64, covered: &[u8], from: &[u8]) -> bool
+    requires room { tail_length head.kind ≤ length from.now }
+    ensures exact { result ≡ starts_with nat_eq from.now (tail_with head.kind (adler_of covered.now) serial head.rid) }
+{
+    if head.kind == Kind::Filler {
+        return true;
+    }
+    let found = table(24, TAIL).get_fields(from);
+    found == [inverted_of(head.kind), u64::from(adler(covered)), serial, head.rid]
+}
+
+/// Whether all bytes are padding.
+fn is_padding(from: &[u8]) -> bool
+    ensures exact { result ≡ list_all (λ b. b == 255) from.now }
+{
+    from.iter().all(|byte| *byte == PADDING)
 }
 
 /// The kind whose magic stands at the front.
@@ -108,11 +161,11 @@ fn is_legal(head: Head) -> bool
 
 /// Whether the version, the flags and the serial of the header at the front are those of the head, which is
 /// what its other fields say.
-fn is_stamped(head: &Head, serial: u64, from: &[u8]) -> bool
-    requires room { header_length Two head.now.kind ≤ length from.now }
-    requires kind { kind_of (take 4 from.now) ≡ Some head.now.kind }
-    requires fields { head.now ≡ head_fields head.now.kind from.now }
-    ensures exact { result ≡ starts_with nat_eq from.now (head_bytes Two serial head.now) }
+fn is_stamped(head: Head, serial: u64, from: &[u8]) -> bool
+    requires room { header_length Two head.kind ≤ length from.now }
+    requires kind { kind_of (take 4 from.now) ≡ Some head.kind }
+    requires fields { head ≡ head_fields head.kind from.now }
+    ensures exact { result ≡ starts_with nat_eq from.now (head_bytes Two serial head) }
 {
     let [_, version, flags, found, _] = table(24, RECORD).get_fields(from);
     [version, flags, found] == [VERSION, flags_of(head.flagged), serial]

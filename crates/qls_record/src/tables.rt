@@ -10,8 +10,8 @@ pub const VERSION: u64 = 2;
 /// The flag that an enqueue or a dequeue may have.
 pub const FLAG: u64 = 0x10;
 
-/// How many bytes a tail has.
-pub const TAIL_LENGTH: usize = 24;
+/// What stands behind a record up to the next multiple of 128 bytes.
+pub const PADDING: u8 = 0xff;
 
 /// Magic, version, flags, serial and rid: the whole header of a filler, and the front of every other.
 pub const RECORD: [Field; 5] = [

@@ -10,6 +10,6 @@ returns c =
     let numbers = c.get_fields.ensures.exact ∙ ap (λ t. numbers_of t.fields c.args.from.now) c.table.ensures.exact in
     record {
       exact =
-          tested c.args.from.now c.get_fields.result c.args.head.now.flagged c.args.serial c.flags_of.result c.eq.result numbers c.flags_of.ensures.exact c.eq.ensures
-          ∙ sym (stamp_there c.args.head.now c.args.serial c.args.from.now bytes c.ranges.serial.fits c.requires.kind c.requires.room c.requires.fields);
+          tested c.args.from.now c.get_fields.result c.args.head.flagged c.args.serial c.flags_of.result c.eq.result numbers c.flags_of.ensures.exact c.eq.ensures
+          ∙ sym (stamp_there c.args.head c.args.serial c.args.from.now bytes c.ranges.serial.fits c.requires.kind c.requires.room c.requires.fields);
     }
