@@ -1,23 +1,23 @@
 -- The header that stands at the front, told from its numbers.
-use Rattle.std.proofs.Common.{◌≡◌, ℕ, ◌+◌, ◌-◌, ◌^◌, ◌<◌, ◌≤◌, Bool, true, false, cond, ◌&&◌, List, [], ◌∷◌, ◌++◌, map, length, take, drop, get_or, Option, Some, None, refl, sym, ap, ◌∙◌, subst, arith, eqb, nat_eq, eq-eqb, lit<, ap₂}
+use Rattle.std.proofs.Common.{◌≡◌, ℕ, ◌^◌, ◌<◌, ◌≤◌, Bool, true, false, cond, ◌&&◌, List, [], ◌∷◌, map, length, take, get_or, Option, Some, None, refl, sym, ap, ◌∙◌, subst, arith, eqb, nat_eq, eq-eqb, lit<, ap₂}
 use Rattle.std.proofs.lemmas.Bool.{and_from, eqb-true}
 use Rattle.std.proofs.lemmas.Nat.{from_le_bytes-to_le_bytes_4}
 use Rattle.std.specs.List.{starts_with}
-use Rattle.std.specs.Cmp.Lexicographic.{bytes_decides, pointwise}
-use Rattle.std.specs.Int.{w16, w32, w64, Width, byte_len, to_le_bytes, from_le_bytes}
+use Rattle.std.specs.Cmp.Lexicographic.{bytes_decides}
+use Rattle.std.specs.Int.{w16, w32, w64, Width, to_le_bytes, from_le_bytes}
 use Rattle.qls_model.specs.Bytes.{same}
 use Rattle.qls_shape.specs.Fields.{number_at, version_number}
 use Rattle.qls_shape.specs.Tables.{numbers_of}
 use Rattle.qls_record.specs.declared.tables.TheConstants.{RECORD}
 use Rattle.qls_shape.specs.declared.Version.{Version}
-use Rattle.qls_shape.specs.declared.Version.TheVariants.{Two, Three}
+use Rattle.qls_shape.specs.declared.Version.TheVariants.{Two}
 use Rattle.qls_record.specs.declared.Kind.{Kind}
 use Rattle.qls_record.specs.declared.Kind.TheVariants.{Enqueue, Dequeue, Commit, Abort, Filler}
 use Rattle.qls_record.specs.declared.Head.{Head}
 use Rattle.qls_record.specs.Record.{header_length}
 use Rattle.qls_record.specs.Spelling.{magic, magic_number, flags, kind_of}
 use Rattle.qls_record.specs.Head.{head_numbers, head_bytes, head_fields, head_at, head_of_kind, is_legal_head}
-use Rattle.qls_record.proofs.Stands.{AreBytes, joined, all_there, widths, AllHaveFields, fields_stand, has_64, has_32, bytes_there_32, same_test, too_short}
+use Rattle.qls_record.proofs.Stands.{AreBytes, joined, AllHaveFields, fields_stand, has_64, bytes_there_32, same_test, too_short}
 use Rattle.qls_record.proofs.RecordLength.{least_header}
 
 abbrev number_64 : ℕ → Width × ℕ
@@ -29,7 +29,7 @@ header_numbers v serial h =
     (w32, magic_number h.kind) ∷ (w16, version_number v) ∷ (w16, flags h.flagged) ∷ (w64, serial) ∷ (w64, h.rid)
     ∷ map number_64 (head_numbers h.kind h)
 
-abbrev headed : Kind → Bool → ℕ → ℕ → ℕ → ℕ → Head
+abbrev pub headed : Kind → Bool → ℕ → ℕ → ℕ → ℕ → Head
 headed kind flagged rid target xid_size body_size = record { kind = kind; flagged = flagged; rid = rid; target = target; xid_size = xid_size; body_size = body_size }
 
 of_kind : (v : Version) (s : ℕ) (k : Kind) (b : Bool) (r t x y : ℕ) → head_bytes v s (headed k b r t x y) ≡ joined (header_numbers v s (headed k b r t x y))
@@ -75,7 +75,7 @@ collapse m true false s rest is_m is_rest = ap (λ b. b && false) is_m
 collapse m true true false rest is_m is_rest = ap (λ b. b && false) is_m
 collapse m true true true rest is_m is_rest = ap₂ (λ a b. a && b) is_m is_rest
 
-small_flags : (b : Bool) → flags b < 2 ^ 16
+pub small_flags : (b : Bool) → flags b < 2 ^ 16
 small_flags true = lit< tt
 small_flags false = lit< tt
 

@@ -1,18 +1,15 @@
 -- The head of a record that is spelled at the front.
-use Rattle.std.proofs.Common.{◌≡◌, ℕ, ◌+◌, ◌^◌, ◌<◌, ◌≤◌, Bool, true, false, cond, ◌&&◌, List, [], ◌∷◌, ◌++◌, length, take, drop, Option, Some, None, refl, sym, ap, ◌∙◌, subst, subst₂, append_assoc, arith, eqb, nat_eq, nat_le, nat_lt, lit<, replicate, length-append}
+use Rattle.std.proofs.Common.{◌≡◌, ℕ, ◌^◌, ◌≤◌, Bool, true, false, cond, ◌&&◌, List, [], ◌++◌, length, take, drop, Some, None, refl, sym, ap, ◌∙◌, arith, nat_eq, nat_le, nat_lt, lit<, replicate, length-append}
 use Rattle.std.proofs.lemmas.Bool.{and_parts, and_from, leb-true}
-use Rattle.std.proofs.lemmas.Nat.{from_le_bytes-to_le_bytes_8}
 use Rattle.std.specs.List.{starts_with}
-use Rattle.std.specs.Int.{w16, w64, from_le_bytes}
-use Rattle.qls_shape.specs.Fields.{u16, u64}
 use Rattle.qls_shape.specs.Lengths.{padding, padded_length}
 use Rattle.qls_shape.specs.declared.Version.{Version}
-use Rattle.qls_shape.specs.declared.Version.TheVariants.{Two, Three}
+use Rattle.qls_shape.specs.declared.Version.TheVariants.{Two}
 use Rattle.qls_record.specs.declared.Kind.{Kind}
 use Rattle.qls_record.specs.declared.Kind.TheVariants.{Enqueue, Dequeue, Commit, Abort, Filler}
 use Rattle.qls_record.specs.declared.Head.{Head}
-use Rattle.qls_record.specs.Record.{Record, is_legal, least_xid, most_xid, most_props, most_body, above_target, may_be_flagged, implies, header_length, tail_length, record_length}
-use Rattle.qls_record.specs.Spelling.{flags, spelling, header, covered, tail, kind_of, record_at}
+use Rattle.qls_record.specs.Record.{Record, is_legal, least_xid, most_xid, most_props, most_body, above_target, may_be_flagged, implies, record_length}
+use Rattle.qls_record.specs.Spelling.{spelling, header, covered, tail, kind_of, record_at}
 use Rattle.qls_record.specs.Head.{head_of, is_legal_head, head_record_length, head_bytes, head_fields, if_headed, head_of_kind, head_at}
 use Rattle.qls_record.proofs.RoundTrip.{Legal, legal_facts, made, number_back, size_back, flag_back, not_flagged, zero_of, none_of, kind_read, regrouped, stands_at_front, record_at_spells}
 use Rattle.qls_record.proofs.RecordLength.{length-spelling, stands_split}

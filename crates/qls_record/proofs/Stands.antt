@@ -1,7 +1,7 @@
 -- What stands at the front of some bytes: parts one behind another, and numbers field by field.
-use Rattle.std.proofs.Common.{◌≡◌, ℕ, ◌+◌, ◌-◌, ◌^◌, ◌<◌, ◌≤◌, Bool, true, false, cond, ◌&&◌, List, [], ◌∷◌, ◌++◌, length, take, drop, get_or, replicate, Some, None, refl, sym, ap, ◌∙◌, subst, append_assoc, arith, eqb, ltb, leb, nat_eq, length-append, length-drop, length-take, drop-drop, get_or-drop, get_or-take, length-take-le, eq-eqb, ne_eqb, eqb-true, take-append-drop, lt_of_lt_of_le, inl, inr, ◌⊎◌}
+use Rattle.std.proofs.Common.{◌≡◌, ℕ, ◌+◌, ◌^◌, ◌<◌, ◌≤◌, Bool, true, false, ◌&&◌, List, [], ◌∷◌, ◌++◌, length, take, drop, get_or, refl, sym, ap, ◌∙◌, arith, eqb, nat_eq, length-append, length-drop, length-take, drop-drop, get_or-drop, get_or-take, eq-eqb, eqb-true, inl, inr, ◌⊎◌}
 use Rattle.std.proofs.lemmas.Nat.{from_le_bytes-to_le_bytes_2, from_le_bytes-to_le_bytes_4, from_le_bytes-to_le_bytes_8, le_bytes_2, le_bytes_4, le_bytes_8}
-use Rattle.std.proofs.lemmas.Bool.{cases_Bool, both_ways, and_parts, cases_lt}
+use Rattle.std.proofs.lemmas.Bool.{cases_lt}
 use Rattle.std.proofs.lemmas.List.{get_or_past}
 use Rattle.std.specs.List.{starts_with}
 use Rattle.std.specs.Cmp.Lexicographic.{bytes_decides, pointwise}

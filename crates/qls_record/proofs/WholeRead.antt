@@ -1,27 +1,25 @@
 -- The record that stands at the front, told from its head, its tail and its padding.
-use Rattle.std.proofs.Common.{◌≡◌, ℕ, ◌+◌, ◌-◌, ◌^◌, ◌<◌, ◌≤◌, Bool, true, false, cond, ◌&&◌, List, [], ◌∷◌, ◌++◌, map, length, take, drop, get_or, Option, Some, None, option_map, refl, sym, ap, ◌∙◌, subst, append_assoc, append-nil, arith, eqb, nat_eq, nat_le, lit<, lit≤, replicate, length-append, length-drop, length-take, take-add, drop-drop, eq-eqb, take-append-drop, take-take, le_refl, ◌==◌}
-use Rattle.std.proofs.lemmas.Bool.{and_parts, and_from, eqb-true}
+use Rattle.std.proofs.Common.{◌≡◌, ℕ, ◌+◌, ◌-◌, ◌^◌, ◌<◌, ◌≤◌, Bool, true, false, cond, ◌&&◌, List, [], ◌∷◌, ◌++◌, length, take, drop, Option, Some, None, option_map, refl, sym, ap, ◌∙◌, subst, append-nil, arith, eqb, nat_eq, nat_le, lit<, replicate, length-append, length-drop, length-take, take-add, drop-drop, eq-eqb, take-take, le_refl, ◌==◌}
+use Rattle.std.proofs.lemmas.Bool.{eqb-true}
 use Rattle.std.proofs.lemmas.List.{length-replicate, take_rest}
 use Rattle.std.specs.List.{starts_with, list_all}
 use Rattle.std.specs.Cmp.Lexicographic.{bytes_decides, pointwise}
-use Rattle.std.specs.Int.{Width, w16, w32, w64, from_le_bytes}
-use Rattle.qls_shape.specs.Fields.{u16, u32, u64, number_at}
+use Rattle.std.specs.Int.{Width, w32, w64, from_le_bytes}
+use Rattle.qls_shape.specs.Fields.{number_at}
 use Rattle.qls_shape.specs.Tables.{numbers_of}
 use Rattle.qls_record.specs.declared.tables.TheConstants.{TAIL}
 use Rattle.qls_shape.specs.Adler.{adler_of}
-use Rattle.qls_shape.specs.Lengths.{padding, padded_length}
-use Rattle.qls_shape.specs.declared.Version.{Version}
-use Rattle.qls_shape.specs.declared.Version.TheVariants.{Two, Three}
+use Rattle.qls_shape.specs.Lengths.{padding}
+use Rattle.qls_shape.specs.declared.Version.TheVariants.{Two}
 use Rattle.qls_record.specs.declared.Kind.{Kind}
 use Rattle.qls_record.specs.declared.Kind.TheVariants.{Enqueue, Dequeue, Commit, Abort, Filler}
 use Rattle.qls_record.specs.declared.Head.{Head}
-use Rattle.qls_record.specs.Record.{Record, is_legal, is_filler, header_length, tail_length, record_length}
-use Rattle.qls_record.specs.Spelling.{magic, inverted_magic, flags, spelling, header, covered, tail, tail_with, padded, kind_of, fields_at, if_spelled, of_kind, record_at}
-use Rattle.qls_record.specs.Head.{head_of, is_legal_head, head_record_length, head_covered_length, head_bytes, head_fields, if_headed, head_of_kind, head_at}
-use Rattle.qls_record.proofs.Stands.{AreBytes, same_test, stands-append, joined, all_there, widths, AllHaveFields, fields_stand, length-joined}
-use Rattle.qls_record.proofs.HeadRead.{head_bytes-joined, header_numbers, field_kind, length-head_bytes}
+use Rattle.qls_record.specs.Record.{Record, is_legal, is_filler, header_length, tail_length}
+use Rattle.qls_record.specs.Spelling.{inverted_magic, spelling, header, covered, tail, tail_with, padded, kind_of, fields_at, of_kind, record_at}
+use Rattle.qls_record.specs.Head.{head_of, is_legal_head, head_record_length, head_covered_length, head_bytes, head_fields, head_of_kind, head_at}
+use Rattle.qls_record.proofs.Stands.{AreBytes, same_test, stands-append, joined, AllHaveFields, fields_stand}
+use Rattle.qls_record.proofs.HeadRead.{field_kind, length-head_bytes}
 use Rattle.qls_record.proofs.HeadTrip.{header_is-head_bytes, same_legal, head_of_record_at, record_fits}
-use Rattle.qls_record.proofs.RecordLength.{length-header, length-tail}
 use Rattle.qls_record.proofs.RoundTrip.{made}
 
 -- what the head at the front tells
@@ -282,7 +280,7 @@ tail_joined Commit sum s rid h = refl
 tail_joined Abort sum s rid h = refl
 tail_joined Filler sum s rid h = absurd (cc)
 
-tail_long : (k : Kind) → is_filler k ≡ false → tail_length k ≡ 24
+pub tail_long : (k : Kind) → is_filler k ≡ false → tail_length k ≡ 24
 tail_long Enqueue h = refl
 tail_long Dequeue h = refl
 tail_long Commit h = refl

@@ -4,11 +4,11 @@ ghost use Rattle.std.specs.List.{starts_with, list_all};
 ghost use Rattle.qls_shape.specs.declared.Version.TheVariants.{Two};
 ghost use Rattle.qls_shape.specs.Adler.{adler_of};
 ghost use Rattle.qls_record.specs.Record.{header_length, tail_length};
-ghost use Rattle.qls_record.specs.Spelling.{kind_of, record_at, flags, spelling, fields_at, tail_with};
+ghost use Rattle.qls_record.specs.Spelling.{kind_of, record_at, spelling, fields_at, tail_with};
 ghost use Rattle.qls_record.specs.Head.{head_of, head_at, head_fields, head_bytes, is_legal_head, head_record_length};
 
 use crate::magic::{self, inverted_of};
-use crate::tables::{FLAG, RECORD, RECORD_AND_ONE, RECORD_AND_TWO, PADDING, TAIL, VERSION, table};
+use crate::tables::{FLAG, RECORD, RECORD_AND_ONE, RECORD_AND_TWO, PADDING, TAIL, VERSION, flags_of, table};
 use crate::{Head, Kind, covered_length, header_length, length, tail_length};
 use qls_shape::adler;
 
@@ -169,11 +169,4 @@ fn is_stamped(head: Head, serial: u64, from: &[u8]) -> bool
 {
     let [_, version, flags, found, _] = table(24, RECORD).get_fields(from);
     [version, flags, found] == [VERSION, flags_of(head.flagged), serial]
-}
-
-/// The flags of a header.
-pub fn flags_of(flagged: bool) -> u64
-    ensures exact { result ≡ flags flagged }
-{
-    if flagged { FLAG } else { 0 }
 }

@@ -1,6 +1,7 @@
 //! The tables of the numbers in a record's header and tail.
 ghost use Rattle.std.specs.Prelude.{◌≡◌, IsTrue, Some};
 ghost use Rattle.qls_shape.specs.Tables.{is_table};
+ghost use Rattle.qls_record.specs.Spelling.{flags};
 
 use qls_shape::{Field, Layout};
 
@@ -60,4 +61,11 @@ pub fn table<const N: usize>(total: usize, fields: [Field; N]) -> Layout<N>
         Some(layout) => layout,
         None => unreachable!(),
     }
+}
+
+/// The flags of a header.
+pub fn flags_of(flagged: bool) -> u64
+    ensures exact { result ≡ flags flagged }
+{
+    if flagged { FLAG } else { 0 }
 }

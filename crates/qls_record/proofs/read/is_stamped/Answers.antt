@@ -1,4 +1,4 @@
-use Rattle.std.proofs.Common.{◌≡◌, ap, ◌∙◌, sym, rules}
+use Rattle.std.proofs.Common.{ap, ◌∙◌, sym, rules}
 use Rattle.qls_shape.specs.Tables.{numbers_of}
 use Rattle.qls_record.proofs.Stands.{AreBytes}
 use Rattle.qls_record.proofs.HeadRead.{stamp_there, tested}

@@ -1,4 +1,4 @@
-use Rattle.std.proofs.Common.{◌≡◌, ◌+◌, ◌≤◌, get_or, length, ap, ◌∙◌, rules, arith}
+use Rattle.std.proofs.Common.{◌≡◌, get_or, ap, ◌∙◌, rules}
 use Rattle.std.specs.Int.{w32}
 use Rattle.qls_shape.specs.Fields.{number_at}
 use Rattle.qls_shape.specs.Tables.{numbers_of}

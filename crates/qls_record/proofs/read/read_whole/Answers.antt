@@ -1,5 +1,4 @@
-use Rattle.std.proofs.Common.{◌≡◌, ◌<◌, Some, None, cond, length, sym, ap, ◌∙◌, arith}
-use Rattle.qls_record.specs.declared.Head.{Head}
+use Rattle.std.proofs.Common.{◌<◌, Some, None, cond, length, sym, ap, ◌∙◌, arith}
 use Rattle.qls_record.specs.Head.{head_record_length}
 use Rattle.qls_record.proofs.WholeRead.{whole_there, none_headed, none_whole}
 use Rattle.qls_record.proofs.read.read_whole.Goals as goal
