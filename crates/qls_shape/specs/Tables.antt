@@ -55,3 +55,14 @@ Fit (f ∷ fs) (n ∷ numbers) = (n < 256 ^ f.width) × Fit fs numbers
 abbrev pub IsOutside : ℕ → List Field → Type 0
 IsOutside i [] = Unit {0}
 IsOutside i (f ∷ fs) = ((i < f.at) ⊎ (f.at + f.width ≤ i)) × IsOutside i fs
+
+-- each field begins where the one before has ended, from a place to the total
+abbrev pub are_joined : ℕ → ℕ → List Field → Bool
+are_joined from total [] = from == total
+are_joined from total (f ∷ fs) = is_width f.width && from == f.at && are_joined (f.at + f.width) total fs
+
+-- the numbers' bytes, one after another
+abbrev pub spelled : List Field → List ℕ → List ℕ
+spelled [] numbers = []
+spelled (f ∷ fs) [] = []
+spelled (f ∷ fs) (n ∷ numbers) = to_le_bytes (width_of f.width) n ++ spelled fs numbers

@@ -1,6 +1,6 @@
 //! Tables of numbers at fixed places, the lowest byte of each first.
-ghost use Rattle.std.specs.Prelude.{◌≡◌, ◌≤◌, ◌<◌, ◌+◌, ◌^◌, ◌&&◌, nat_le, length, IsTrue};
-ghost use Rattle.qls_shape.specs.Tables.{is_width, table_of, number_in, numbers_of, with_number, with_numbers, Fit};
+ghost use Rattle.std.specs.Prelude.{◌≡◌, ◌≤◌, ◌<◌, ◌+◌, ◌^◌, ◌&&◌, ℕ, nat_le, length, slice_index, IsTrue};
+ghost use Rattle.qls_shape.specs.Tables.{is_width, table_of, number_in, numbers_of, with_number, with_numbers, Fit, IsOutside};
 
 use byteorder::{ByteOrder, LittleEndian};
 use std::marker::Model;
@@ -73,6 +73,7 @@ impl<const N: usize> Layout<N> {
     pub fn get_fields(&self, from: &[u8]) -> [u64; N]
         requires room { self.now.total ≤ length from.now }
         ensures exact { result ≡ numbers_of self.now.fields from.now }
+        ensures put_back { with_numbers self.now.fields result from.now ≡ from.now }
     {
         let mut numbers = [0; N];
         for i in 0..N {
@@ -87,6 +88,8 @@ impl<const N: usize> Layout<N> {
         requires room { self.now.total ≤ length into.old }
         requires fit { Fit self.now.fields values.now }
         ensures exact { into.new ≡ with_numbers self.now.fields values.now into.old }
+        ensures got { numbers_of self.now.fields into.new ≡ values.now }
+        ensures others { (i : ℕ) → IsOutside i self.now.fields → slice_index into.new i ≡ slice_index into.old i }
     {
         for i in 0..N {
             put_number(self.fields[i], values[i], into);

@@ -1,4 +1,7 @@
-use Rattle.std.proofs.Common.{arith, ap}
+use Rattle.std.proofs.Common.{drop, [], ◌≡◌, true, sym, ◌∙◌, length, get_or, arith, ap}
+use Rattle.std.proofs.lemmas.List.{drop_all}
+use Rattle.qls_shape.specs.Tables.{numbers_of, with_numbers, is_table}
+use Rattle.qls_shape.proofs.TableTrip.{numbers_of-with_numbers, outside_stays}
 use Rattle.qls_shape.proofs.TableLaws.{field_width, field_within, number_fits}
 use Rattle.qls_shape.proofs.layout.Layout.put_fields.Goals as goal
 
@@ -12,3 +15,28 @@ put_number-requires-clause-room g c =
 
 pub put_number-requires-clause-fits : goal.put_number-requires-clause-fits
 put_number-requires-clause-fits g c = number_fits c.self.inside.fields c.args.values.now c.loop-i.i (record { at = 0; width = 0 }) (rw (ap (λ t. t.fields) c.self.view_is) c.requires.fit) (omega arith) (omega arith)
+
+pub returns-clause-got : goal.returns-clause-got
+returns-clause-got g c =
+    let t = c.args.self.now in
+    let order : is_table t.total t.fields ≡ true = ap (λ t. is_table t.total t.fields) (sym c.self.view_is) ∙ c.self.invariant in
+    let size : length t.fields ≡ g.row.N = ap (λ t. length t.fields) (sym c.self.view_is) ∙ c.self.told in
+    let none : drop c.loop-i.i c.self.inside.fields ≡ [] = drop_all c.loop-i.i c.self.inside.fields (omega arith) in
+    let put : c.loop-i.into ≡ with_numbers t.fields c.args.values.now c.args.into.now =
+    sym (ap (λ l. with_numbers l (drop c.loop-i.i c.args.values.now) c.loop-i.into) none)
+    ∙ c.loop-i.invariant.left
+    ∙ ap (λ t. with_numbers t.fields c.args.values.now c.args.into.now) c.self.view_is in
+    ap (numbers_of t.fields) put
+    ∙ numbers_of-with_numbers 0 t.total t.fields c.args.values.now c.args.into.now order (omega arith) c.requires.fit c.requires.room
+
+pub returns-clause-others : goal.returns-clause-others
+returns-clause-others g c i outside =
+    let t = c.args.self.now in
+    let order : is_table t.total t.fields ≡ true = ap (λ t. is_table t.total t.fields) (sym c.self.view_is) ∙ c.self.invariant in
+    let none : drop c.loop-i.i c.self.inside.fields ≡ [] = drop_all c.loop-i.i c.self.inside.fields (omega arith) in
+    let put : c.loop-i.into ≡ with_numbers t.fields c.args.values.now c.args.into.now =
+    sym (ap (λ l. with_numbers l (drop c.loop-i.i c.args.values.now) c.loop-i.into) none)
+    ∙ c.loop-i.invariant.left
+    ∙ ap (λ t. with_numbers t.fields c.args.values.now c.args.into.now) c.self.view_is in
+    ap (λ l. get_or l i 0) put
+    ∙ outside_stays 0 t.total t.fields c.args.values.now c.args.into.now i order c.requires.room outside
