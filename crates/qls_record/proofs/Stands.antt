@@ -48,10 +48,9 @@ piece k at xs h i = pick (cases_lt i k)
     pick (inr l) = let e = get_or_past (take k (drop at xs)) i 0 (omega (arith, length-take k (drop at xs))) in omega arith
 
 module _ (w : Width) (most : ℕ)
-  (back : (n : ℕ) → n < most → from_le_bytes w (to_le_bytes w n) ≡ n)
-  (again : (bs : List ℕ) (n : ℕ) → length bs ≡ byte_len w → ((i : ℕ) → get_or bs i 0 < 256) → n ≡ from_le_bytes w bs → to_le_bytes w n ≡ bs)
-  (long : (n : ℕ) → length (to_le_bytes w n) ≡ byte_len w) where
-
+    (back : (n : ℕ) → n < most → from_le_bytes w (to_le_bytes w n) ≡ n)
+    (again : (bs : List ℕ) (n : ℕ) → length bs ≡ byte_len w → ((i : ℕ) → get_or bs i 0 < 256) → n ≡ from_le_bytes w bs → to_le_bytes w n ≡ bs)
+    (long : (n : ℕ) → length (to_le_bytes w n) ≡ byte_len w) where
   pub bytes_there : (xs : List ℕ) (at : ℕ) → AreBytes xs → at + byte_len w ≤ length xs → to_le_bytes w (number_at w at xs) ≡ take (byte_len w) (drop at xs)
   bytes_there xs at h fits =
       again (take (byte_len w) (drop at xs)) (number_at w at xs) (omega (arith, length-take (byte_len w) (drop at xs), length-drop at xs)) (piece (byte_len w) at xs h) refl

@@ -7,7 +7,9 @@ ghost use Rattle.qls_record.specs.Spelling.{spelling, tail_with};
 ghost use Rattle.qls_record.specs.Head.{head_bytes, head_record_length, is_legal_head, record_with};
 
 use crate::magic::{inverted_of, magic_of};
-use crate::tables::{PADDING, RECORD, RECORD_AND_ONE, RECORD_AND_TWO, TAIL, VERSION, flags_of, table};
+use crate::tables::{
+    PADDING, VERSION, flags_of, one_more_table, record_table, tail_table, two_more_table,
+};
 use crate::{Head, Kind, covered_length, header_length, tail_length};
 use qls_shape::adler;
 
@@ -39,20 +41,36 @@ fn put_header(head: Head, serial: u64, into: &mut [u8])
     let flags = flags_of(head.flagged);
     match head.kind {
         Kind::Enqueue => {
-            let numbers = [magic, VERSION, flags, serial, head.rid, head.xid_size, head.body_size];
-            table(40, RECORD_AND_TWO).put_fields(&numbers, into);
+            let numbers = [
+                magic,
+                VERSION,
+                flags,
+                serial,
+                head.rid,
+                head.xid_size,
+                head.body_size,
+            ];
+            two_more_table().put_fields(&numbers, into);
         }
         Kind::Dequeue => {
-            let numbers = [magic, VERSION, flags, serial, head.rid, head.target, head.xid_size];
-            table(40, RECORD_AND_TWO).put_fields(&numbers, into);
+            let numbers = [
+                magic,
+                VERSION,
+                flags,
+                serial,
+                head.rid,
+                head.target,
+                head.xid_size,
+            ];
+            two_more_table().put_fields(&numbers, into);
         }
         Kind::Commit | Kind::Abort => {
             let numbers = [magic, VERSION, flags, serial, head.rid, head.xid_size];
-            table(32, RECORD_AND_ONE).put_fields(&numbers, into);
+            one_more_table().put_fields(&numbers, into);
         }
         Kind::Filler => {
             let numbers = [magic, VERSION, flags, serial, head.rid];
-            table(24, RECORD).put_fields(&numbers, into);
+            record_table().put_fields(&numbers, into);
         }
     }
 }
@@ -75,7 +93,7 @@ fn put_tail(head: Head, serial: u64, at: usize, into: &mut [u8])
     }
     let sum = u64::from(adler(&into[..at]));
     let numbers = [inverted_of(head.kind), sum, serial, head.rid];
-    table(24, TAIL).put_fields(&numbers, &mut into[at..]);
+    tail_table().put_fields(&numbers, &mut into[at..]);
 }
 
 /// Writes padding from a place to the end.

@@ -8,7 +8,9 @@ ghost use Rattle.qls_record.specs.Spelling.{kind_of, record_at, spelling, fields
 ghost use Rattle.qls_record.specs.Head.{head_of, head_at, head_fields, head_bytes, is_legal_head, head_record_length};
 
 use crate::magic::{self, inverted_of};
-use crate::tables::{FLAG, RECORD, RECORD_AND_ONE, RECORD_AND_TWO, PADDING, TAIL, VERSION, flags_of, table};
+use crate::tables::{
+    FLAG, PADDING, VERSION, flags_of, one_more_table, record_table, tail_table, two_more_table,
+};
 use crate::{Head, Kind, covered_length, header_length, length, tail_length};
 use qls_shape::adler;
 
@@ -72,8 +74,9 @@ fn has_tail(head: Head, serial: u64, covered: &[u8], from: &[u8]) -> bool
     if head.kind == Kind::Filler {
         return true;
     }
-    let found = table(24, TAIL).get_fields(from);
-    found == [inverted_of(head.kind), u64::from(adler(covered)), serial, head.rid]
+    let found = tail_table().get_fields(from);
+    let sum = u64::from(adler(covered));
+    found == [inverted_of(head.kind), sum, serial, head.rid]
 }
 
 /// Whether all bytes are padding.
@@ -88,7 +91,7 @@ fn kind_at(from: &[u8]) -> Option<Kind>
     requires room { 24 ≤ length from.now }
     ensures exact { result ≡ kind_of (take 4 from.now) }
 {
-    let [magic, _, _, _, _] = table(24, RECORD).get_fields(from);
+    let [magic, _, _, _, _] = record_table().get_fields(from);
     magic::kind_of(magic)
 }
 
@@ -99,7 +102,7 @@ fn fields_at(kind: Kind, from: &[u8]) -> Head
 {
     match kind {
         Kind::Enqueue => {
-            let [_, _, flags, _, rid, xid_size, body_size] = table(40, RECORD_AND_TWO).get_fields(from);
+            let [_, _, flags, _, rid, xid_size, body_size] = two_more_table().get_fields(from);
             Head {
                 kind,
                 flagged: flags == FLAG,
@@ -110,7 +113,7 @@ fn fields_at(kind: Kind, from: &[u8]) -> Head
             }
         }
         Kind::Dequeue => {
-            let [_, _, flags, _, rid, target, xid_size] = table(40, RECORD_AND_TWO).get_fields(from);
+            let [_, _, flags, _, rid, target, xid_size] = two_more_table().get_fields(from);
             Head {
                 kind,
                 flagged: flags == FLAG,
@@ -121,7 +124,7 @@ fn fields_at(kind: Kind, from: &[u8]) -> Head
             }
         }
         Kind::Commit | Kind::Abort => {
-            let [_, _, _, _, rid, xid_size] = table(32, RECORD_AND_ONE).get_fields(from);
+            let [_, _, _, _, rid, xid_size] = one_more_table().get_fields(from);
             Head {
                 kind,
                 flagged: false,
@@ -132,7 +135,7 @@ fn fields_at(kind: Kind, from: &[u8]) -> Head
             }
         }
         Kind::Filler => {
-            let [_, _, _, _, rid] = table(24, RECORD).get_fields(from);
+            let [_, _, _, _, rid] = record_table().get_fields(from);
             Head {
                 kind,
                 flagged: false,
@@ -153,9 +156,16 @@ fn is_legal(head: Head) -> bool
         Kind::Enqueue => head.target == 0 && head.xid_size <= 128 && head.body_size <= 1_048_576,
         Kind::Dequeue => head.xid_size <= 128 && head.body_size == 0,
         Kind::Commit | Kind::Abort => {
-            head.target == 0 && !head.flagged && 1 <= head.xid_size && head.xid_size <= 128 && head.body_size == 0
+            head.target == 0
+                && !head.flagged
+                && 1 <= head.xid_size
+                && head.xid_size <= 128
+                && head.body_size == 0
         }
-        Kind::Filler => head.target == 0 && !head.flagged && head.xid_size == 0 && head.body_size == 0,
+        Kind::Filler => head.target == 0
+            && !head.flagged
+            && head.xid_size == 0
+            && head.body_size == 0,
     }
 }
 
@@ -167,6 +177,6 @@ fn is_stamped(head: Head, serial: u64, from: &[u8]) -> bool
     requires fields { head ≡ head_fields head.kind from.now }
     ensures exact { result ≡ starts_with nat_eq from.now (head_bytes Two serial head) }
 {
-    let [_, version, flags, found, _] = table(24, RECORD).get_fields(from);
+    let [_, version, flags, found, _] = record_table().get_fields(from);
     [version, flags, found] == [VERSION, flags_of(head.flagged), serial]
 }

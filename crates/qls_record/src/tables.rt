@@ -15,7 +15,7 @@ pub const FLAG: u64 = 0x10;
 pub const PADDING: u8 = 0xff;
 
 /// Magic, version, flags, serial and rid: the whole header of a filler, and the front of every other.
-pub const RECORD: [Field; 5] = [
+const RECORD: [Field; 5] = [
     Field { at: 0, width: 4 },
     Field { at: 4, width: 2 },
     Field { at: 6, width: 2 },
@@ -24,7 +24,7 @@ pub const RECORD: [Field; 5] = [
 ];
 
 /// The same and one number more: the header of a commit and of an abort.
-pub const RECORD_AND_ONE: [Field; 6] = [
+const RECORD_AND_ONE: [Field; 6] = [
     Field { at: 0, width: 4 },
     Field { at: 4, width: 2 },
     Field { at: 6, width: 2 },
@@ -34,7 +34,7 @@ pub const RECORD_AND_ONE: [Field; 6] = [
 ];
 
 /// The same and two numbers more: the header of an enqueue and of a dequeue.
-pub const RECORD_AND_TWO: [Field; 7] = [
+const RECORD_AND_TWO: [Field; 7] = [
     Field { at: 0, width: 4 },
     Field { at: 4, width: 2 },
     Field { at: 6, width: 2 },
@@ -45,15 +45,43 @@ pub const RECORD_AND_TWO: [Field; 7] = [
 ];
 
 /// The magic inverted, the checksum, the serial and the rid.
-pub const TAIL: [Field; 4] = [
+const TAIL: [Field; 4] = [
     Field { at: 0, width: 4 },
     Field { at: 4, width: 4 },
     Field { at: 8, width: 8 },
     Field { at: 16, width: 8 },
 ];
 
+/// The table of a filler's header, and of the front of every other.
+pub fn record_table() -> Layout<5>
+    ensures exact { result ≡ record { total = 24; fields = RECORD } }
+{
+    table(24, RECORD)
+}
+
+/// The table of the header of a commit and of an abort.
+pub fn one_more_table() -> Layout<6>
+    ensures exact { result ≡ record { total = 32; fields = RECORD_AND_ONE } }
+{
+    table(32, RECORD_AND_ONE)
+}
+
+/// The table of the header of an enqueue and of a dequeue.
+pub fn two_more_table() -> Layout<7>
+    ensures exact { result ≡ record { total = 40; fields = RECORD_AND_TWO } }
+{
+    table(40, RECORD_AND_TWO)
+}
+
+/// The table of a tail.
+pub fn tail_table() -> Layout<4>
+    ensures exact { result ≡ record { total = 24; fields = TAIL } }
+{
+    table(24, TAIL)
+}
+
 /// The table of fields that are one.
-pub fn table<const N: usize>(total: usize, fields: [Field; N]) -> Layout<N>
+fn table<const N: usize>(total: usize, fields: [Field; N]) -> Layout<N>
     requires one { IsTrue (is_table total fields) }
     ensures exact { result ≡ record { total = total; fields = fields.entry } }
 {

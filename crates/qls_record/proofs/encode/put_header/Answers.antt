@@ -7,7 +7,7 @@ pub returns-in-Enqueue : goal.returns-in-Enqueue
 returns-in-Enqueue c = record {
   exact =
       header_put c.args.head Enqueue c.args.serial c.magic_of-magic.result c.flags_of-flags.result _ _ c.args.into.now c.put_fields.new.into c.in-Enqueue.is
-      c.magic_of-magic.ensures.exact c.flags_of-flags.ensures.exact (ap (λ t. t.fields) c.table.ensures.exact) refl
+      c.magic_of-magic.ensures.exact c.flags_of-flags.ensures.exact (ap (λ t. t.fields) c.two_more_table.ensures.exact) refl
       (omega arith) (omega arith) (omega arith) (omega arith) c.ranges.serial.fits c.put_fields.ensures.exact;
 }
 
@@ -15,7 +15,7 @@ pub returns-in-Dequeue : goal.returns-in-Dequeue
 returns-in-Dequeue c = record {
   exact =
       header_put c.args.head Dequeue c.args.serial c.magic_of-magic.result c.flags_of-flags.result _ _ c.args.into.now c.put_fields-in-Dequeue.new.into c.in-Dequeue.is
-      c.magic_of-magic.ensures.exact c.flags_of-flags.ensures.exact (ap (λ t. t.fields) c.table-in-Dequeue.ensures.exact) refl
+      c.magic_of-magic.ensures.exact c.flags_of-flags.ensures.exact (ap (λ t. t.fields) c.two_more_table-in-Dequeue.ensures.exact) refl
       (omega arith) (omega arith) (omega arith) (omega arith) c.ranges.serial.fits c.put_fields-in-Dequeue.ensures.exact;
 }
 
@@ -25,13 +25,13 @@ returns-in-Commit c =
       | inl is ↦ record {
         exact =
             header_put c.args.head Commit c.args.serial c.magic_of-magic.result c.flags_of-flags.result _ _ c.args.into.now c.put_fields-in-Commit.new.into is
-            c.magic_of-magic.ensures.exact c.flags_of-flags.ensures.exact (ap (λ t. t.fields) c.table-in-Commit.ensures.exact) refl
+            c.magic_of-magic.ensures.exact c.flags_of-flags.ensures.exact (ap (λ t. t.fields) c.one_more_table.ensures.exact) refl
             (omega arith) (omega arith) (omega arith) (omega arith) c.ranges.serial.fits c.put_fields-in-Commit.ensures.exact;
       }
       | inr is ↦ record {
         exact =
             header_put c.args.head Abort c.args.serial c.magic_of-magic.result c.flags_of-flags.result _ _ c.args.into.now c.put_fields-in-Commit.new.into is
-            c.magic_of-magic.ensures.exact c.flags_of-flags.ensures.exact (ap (λ t. t.fields) c.table-in-Commit.ensures.exact) refl
+            c.magic_of-magic.ensures.exact c.flags_of-flags.ensures.exact (ap (λ t. t.fields) c.one_more_table.ensures.exact) refl
             (omega arith) (omega arith) (omega arith) (omega arith) c.ranges.serial.fits c.put_fields-in-Commit.ensures.exact;
       }
     ]

@@ -24,6 +24,6 @@ returns c =
       exact =
           tail_put c.args.head.kind c.from-sum.result c.args.serial c.args.head.rid c.args.at c.inverted_of.result _ c.args.into.now c.put_fields.new.into
           (other c.args.head.kind c.if-eq.ensures) (omega (arith, sum, small)) c.ranges.serial.fits (omega arith) c.requires.room
-          (ap (λ t. t.fields) c.table.ensures.exact) c.inverted_of.ensures.exact c.put_fields.ensures.exact
+          (ap (λ t. t.fields) c.tail_table.ensures.exact) c.inverted_of.ensures.exact c.put_fields.ensures.exact
           ∙ ap (λ n. take c.args.at c.args.into.now ++ tail_with c.args.head.kind n c.args.serial c.args.head.rid ++ drop (c.args.at + tail_length c.args.head.kind) c.args.into.now) sum;
     }

@@ -7,7 +7,7 @@ use Rattle.qls_record.proofs.read.is_stamped.Goals as goal
 pub returns : goal.returns
 returns c =
     let bytes : AreBytes c.args.from.now = record { small = search rules } in
-    let numbers = c.get_fields.ensures.exact ∙ ap (λ t. numbers_of t.fields c.args.from.now) c.table.ensures.exact in
+    let numbers = c.get_fields.ensures.exact ∙ ap (λ t. numbers_of t.fields c.args.from.now) c.record_table.ensures.exact in
     record {
       exact =
           tested c.args.from.now c.get_fields.result c.args.head.flagged c.args.serial c.flags_of.result c.eq.result numbers c.flags_of.ensures.exact c.eq.ensures

@@ -10,7 +10,7 @@ pub kind_of-requires : goal.kind_of-requires
 kind_of-requires c =
     let bytes : AreBytes c.args.from.now = record { small = search rules } in
     let first : get_or c.get_fields.result 0 0 ≡ number_at w32 0 c.args.from.now =
-    ap (λ l. get_or l 0 0) (c.get_fields.ensures.exact ∙ ap (λ t. numbers_of t.fields c.args.from.now) c.table.ensures.exact) in
+    ap (λ l. get_or l 0 0) (c.get_fields.ensures.exact ∙ ap (λ t. numbers_of t.fields c.args.from.now) c.record_table.ensures.exact) in
     let small = has_32 0 c.args.from.now bytes in
     record { number = rw first small }
 
@@ -18,5 +18,5 @@ pub returns : goal.returns
 returns c =
     let bytes : AreBytes c.args.from.now = record { small = search rules } in
     let first : get_or c.get_fields.result 0 0 ≡ number_at w32 0 c.args.from.now =
-    ap (λ l. get_or l 0 0) (c.get_fields.ensures.exact ∙ ap (λ t. numbers_of t.fields c.args.from.now) c.table.ensures.exact) in
+    ap (λ l. get_or l 0 0) (c.get_fields.ensures.exact ∙ ap (λ t. numbers_of t.fields c.args.from.now) c.record_table.ensures.exact) in
     record { exact = kind_there c.args.from.now (get_or c.get_fields.result 0 0) c.kind_of.result bytes c.requires.room first c.kind_of.ensures.exact }
