@@ -1,10 +1,10 @@
 -- What stands at the front is told from the bytes that it takes: those behind it don't matter.
-use Rattle.std.proofs.Common.{◌≡◌, ℕ, ◌+◌, ◌-◌, ◌<◌, ◌≤◌, Bool, true, false, cond, ◌&&◌, List, [], ◌∷◌, ◌++◌, length, take, drop, Option, Some, None, refl, sym, ap, ◌∙◌, subst, append_assoc, arith, nat_eq, take-append-drop, take-take, lit≤, le_trans}
+use Rattle.std.proofs.Common.{◌≡◌, ℕ, ◌+◌, ◌-◌, ◌≤◌, false, cond, ◌&&◌, List, ◌++◌, length, take, drop, Option, Some, None, refl, sym, ap, ◌∙◌, append_assoc, arith, nat_eq, take-append-drop, take-take, lit≤}
 use Rattle.std.proofs.Math.Seq.{take-append-add}
 use Rattle.std.proofs.lemmas.List.{drop-take}
 use Rattle.std.specs.List.{starts_with}
 use Rattle.std.specs.Cmp.Lexicographic.{pointwise}
-use Rattle.std.specs.Int.{Width, w16, w32, w64, byte_len, from_le_bytes}
+use Rattle.std.specs.Int.{Width, w16, w64, byte_len, from_le_bytes}
 use Rattle.qls_shape.specs.Fields.{number_at}
 use Rattle.qls_shape.specs.declared.Version.{Version}
 use Rattle.qls_shape.specs.declared.Version.TheVariants.{Two}
@@ -12,11 +12,11 @@ use Rattle.qls_record.specs.declared.Kind.{Kind}
 use Rattle.qls_record.specs.declared.Kind.TheVariants.{Enqueue, Dequeue, Commit, Abort, Filler}
 use Rattle.qls_record.specs.declared.Head.{Head}
 use Rattle.qls_record.specs.Record.{Record, record_length, header_length}
-use Rattle.qls_record.specs.Spelling.{spelling, record_at, kind_of, flags}
+use Rattle.qls_record.specs.Spelling.{spelling, record_at, kind_of}
 use Rattle.qls_record.specs.Head.{head_at, head_bytes, head_fields, head_of_kind, if_headed, is_legal_head}
 use Rattle.qls_record.proofs.RoundTrip.{record_at-spelling, record_at_spells}
 use Rattle.qls_record.proofs.RecordLength.{length-spelling, stands_split}
-use Rattle.qls_record.proofs.HeadRead.{length-head_bytes, field_kind}
+use Rattle.qls_record.proofs.HeadRead.{length-head_bytes}
 
 -- What is read in the first bytes is read in all.
 pub read_in_all : (v : Version) (s n : ℕ) (xs : List ℕ) (r : Record) → record_at v s (take n xs) ≡ Some r → record_at v s xs ≡ Some r

@@ -37,39 +37,31 @@ fn put_header(head: Head, serial: u64, into: &mut [u8])
     requires room { header_length Two head.kind ≤ length into.old }
     ensures exact { into.new ≡ head_bytes Two serial head ++ drop (header_length Two head.kind) into.old }
 {
-    let magic = magic_of(head.kind);
-    let flags = flags_of(head.flagged);
-    match head.kind {
+    let Head {
+        kind,
+        flagged,
+        rid,
+        target,
+        xid_size,
+        body_size,
+    } = head;
+    let magic = magic_of(kind);
+    let flags = flags_of(flagged);
+    match kind {
         Kind::Enqueue => {
-            let numbers = [
-                magic,
-                VERSION,
-                flags,
-                serial,
-                head.rid,
-                head.xid_size,
-                head.body_size,
-            ];
+            let numbers = [magic, VERSION, flags, serial, rid, xid_size, body_size];
             two_more_table().put_fields(&numbers, into);
         }
         Kind::Dequeue => {
-            let numbers = [
-                magic,
-                VERSION,
-                flags,
-                serial,
-                head.rid,
-                head.target,
-                head.xid_size,
-            ];
+            let numbers = [magic, VERSION, flags, serial, rid, target, xid_size];
             two_more_table().put_fields(&numbers, into);
         }
         Kind::Commit | Kind::Abort => {
-            let numbers = [magic, VERSION, flags, serial, head.rid, head.xid_size];
+            let numbers = [magic, VERSION, flags, serial, rid, xid_size];
             one_more_table().put_fields(&numbers, into);
         }
         Kind::Filler => {
-            let numbers = [magic, VERSION, flags, serial, head.rid];
+            let numbers = [magic, VERSION, flags, serial, rid];
             record_table().put_fields(&numbers, into);
         }
     }

@@ -20,6 +20,7 @@ pub fn read_head(from: &[u8], serial: u64) -> Option<Head>
     ensures exact { result ≡ head_at Two serial from.now }
     ensures limits { IfSome result (λ h. (h.xid_size ≤ 128) × (h.body_size ≤ 1048576)) }
 {
+    // No header is shorter.
     if from.len() < 24 {
         return None;
     }
@@ -100,50 +101,48 @@ fn fields_at(kind: Kind, from: &[u8]) -> Head
     requires room { header_length Two kind ≤ length from.now }
     ensures exact { result ≡ head_fields kind from.now }
 {
+    let bare = Head {
+        kind,
+        flagged: false,
+        rid: 0,
+        target: 0,
+        xid_size: 0,
+        body_size: 0,
+    };
     match kind {
         Kind::Enqueue => {
             let [_, _, flags, _, rid, xid_size, body_size] = two_more_table().get_fields(from);
+            let flagged = flags == FLAG;
             Head {
-                kind,
-                flagged: flags == FLAG,
+                flagged,
                 rid,
-                target: 0,
                 xid_size,
                 body_size,
+                ..bare
             }
         }
         Kind::Dequeue => {
             let [_, _, flags, _, rid, target, xid_size] = two_more_table().get_fields(from);
+            let flagged = flags == FLAG;
             Head {
-                kind,
-                flagged: flags == FLAG,
+                flagged,
                 rid,
                 target,
                 xid_size,
-                body_size: 0,
+                ..bare
             }
         }
         Kind::Commit | Kind::Abort => {
             let [_, _, _, _, rid, xid_size] = one_more_table().get_fields(from);
             Head {
-                kind,
-                flagged: false,
                 rid,
-                target: 0,
                 xid_size,
-                body_size: 0,
+                ..bare
             }
         }
         Kind::Filler => {
             let [_, _, _, _, rid] = record_table().get_fields(from);
-            Head {
-                kind,
-                flagged: false,
-                rid,
-                target: 0,
-                xid_size: 0,
-                body_size: 0,
-            }
+            Head { rid, ..bare }
         }
     }
 }
