@@ -85,10 +85,7 @@ fn table<const N: usize>(total: usize, fields: [Field; N]) -> Layout<N>
     requires one { IsTrue (is_table total fields) }
     ensures exact { result ≡ record { total = total; fields = fields.entry } }
 {
-    match Layout::checked(total, fields) {
-        Some(layout) => layout,
-        None => unreachable!(),
-    }
+    Layout::checked(total, fields).unwrap()
 }
 
 /// The flags of a header.
