@@ -1,20 +1,20 @@
 -- A spelling put together part by part.
-use Rattle.std.proofs.Common.{◌≡◌, ℕ, ◌+◌, ◌-◌, List, [], ◌++◌, length, take, drop, replicate, sym, ap, ◌∙◌, append-nil, arith, length-append, length-drop}
+use Rattle.std.proofs.Common.{◌≡◌, true, refl, ℕ, ◌+◌, ◌-◌, List, [], ◌++◌, length, take, drop, replicate, sym, ap, ◌∙◌, append-nil, arith, length-append, length-drop}
 use Rattle.std.proofs.lemmas.List.{take_at}
 use Rattle.qls_shape.specs.Adler.{adler_of}
 use Rattle.qls_shape.specs.Lengths.{padding}
 use Rattle.qls_shape.specs.declared.Version.TheVariants.{Two}
 use Rattle.qls_record.specs.declared.Head.{Head}
-use Rattle.qls_record.specs.Record.{header_length, tail_length}
+use Rattle.qls_record.specs.Record.{header_length, tail_length, is_legal, record_length}
 use Rattle.qls_record.specs.Spelling.{spelling, covered, tail_with, padded}
-use Rattle.qls_record.specs.Head.{head_of, head_bytes, head_record_length, record_with}
+use Rattle.qls_record.specs.Head.{head_of, is_legal_head, head_bytes, head_record_length, record_with}
 use Rattle.qls_record.proofs.HeadRead.{length-head_bytes}
-use Rattle.qls_record.proofs.HeadTrip.{header_is-head_bytes}
+use Rattle.qls_record.proofs.HeadTrip.{header_is-head_bytes, same_legal, head_length}
 use Rattle.qls_record.proofs.WholeRead.{length-tail_with}
 use Rattle.qls_record.proofs.Put.{put_behind}
 
 -- the record with these sizes has this head
-head_with : (h : Head) (xid body : List ℕ) → length xid ≡ h.xid_size → length body ≡ h.body_size → head_of (record_with h xid body) ≡ h
+pub head_with : (h : Head) (xid body : List ℕ) → length xid ≡ h.xid_size → length body ≡ h.body_size → head_of (record_with h xid body) ≡ h
 head_with h xid body x y = λ i. record { kind = h.kind; flagged = h.flagged; rid = h.rid; target = h.target; xid_size = x i; body_size = y i }
 
 covered_with : (h : Head) (s : ℕ) (xid body : List ℕ) → length xid ≡ h.xid_size → length body ≡ h.body_size → covered Two s (record_with h xid body) ≡ (head_bytes Two s h ++ xid) ++ body
@@ -63,3 +63,12 @@ assembled h s n k xid body start i1 i2 i3 i4 i5 x y room is_n is_k e1 e2 e3 e4 e
     ∙ ap (λ f. f ++ replicate (length i4 - (c + t)) 255) (take_at (C ++ T) (drop (length T) r3) (c + t) wl)
     ∙ ap (λ k. (C ++ T) ++ replicate k 255) left
     ∙ (λ i. padded (sym same i ++ tail_with h.kind (adler_of (sym same i)) s h.rid))
+
+-- ---- the record of a legal head
+
+pub record_is_legal : (h : Head) (xid body : List ℕ) → is_legal_head h ≡ true → length xid ≡ h.xid_size → length body ≡ h.body_size → is_legal Two (record_with h xid body) ≡ true
+record_is_legal h xid body legal x y = same_legal (record_with h xid body) refl ∙ ap is_legal_head (head_with h xid body x y) ∙ legal
+
+pub length-record_with : (h : Head) (xid body : List ℕ) → is_legal_head h ≡ true → length xid ≡ h.xid_size → length body ≡ h.body_size → record_length Two (record_with h xid body) ≡ head_record_length h
+length-record_with h xid body legal x y =
+    sym (head_length (record_with h xid body) (record_is_legal h xid body legal x y)) ∙ ap head_record_length (head_with h xid body x y)
