@@ -27,8 +27,9 @@ impl Model for State {
 }
 
 impl State {
-    ghost use Rattle.std.specs.Prelude.{◌≡◌, ◌<◌, ◌^◌, ◌↔◌, None, length, slice_get, option_copied, IsSome, IfOk, IfErr};
+    ghost use Rattle.std.specs.Prelude.{◌≡◌, ◌<◌, ◌^◌, ◌↔◌, None, length, slice_get, option_copied, IsSome, IfSome, IfOk, IfErr};
     ghost use Rattle.std.specs.Option.{option_map};
+    ghost use Rattle.qls_model.specs.Sound.{RisesTo};
     ghost use Rattle.qls_model.specs.Machine.{empty_state, queue_named, xid_named, with_queue, with_xid};
 
     /// No queue and no xid.
@@ -45,6 +46,7 @@ impl State {
     pub fn put_queue(&mut self, queue: QueueState) -> Result<(), NoMemory>
         requires absent { queue_named queue.name self.old.queues ≡ None }
         requires last { queue.last < 2 ^ 62 }
+        requires rising { RisesTo queue.last queue.messages }
         ensures added { IfOk result (λ _. self.new ≡ record self.old { queues = with_queue queue self.old.queues }) }
         ensures kept { IfErr result (λ _. self.new ≡ self.old) }
     {
@@ -82,6 +84,7 @@ impl State {
     pub fn queue_at(&self, at: usize) -> Option<&QueueState>
         ensures there { IsSome result ↔ (at < length self.now.queues) }
         ensures queue { option_copied result ≡ slice_get self.now.queues at }
+        ensures rising { IfSome result (λ q. RisesTo q.now.last q.now.messages) }
     {
         self.queues.get(at)
     }
