@@ -26,6 +26,14 @@ fn told(reply: &Reply) -> Outcome {
     }
 }
 
+/// A step that is refused memory is tried once more: the state is as before.
+fn step_with_luck(state: &mut State, command: &Command) -> Result<Reply, NoMemory> {
+    match step(state, command) {
+        Ok(reply) => Ok(reply),
+        Err(NoMemory) => step(state, command),
+    }
+}
+
 fn run(rt: &impl Abort, state: &mut State, script: &[(Command, Outcome)]) -> Result<(), NoMemory> {
     for (at, (command, wanted)) in script.iter().enumerate() {
         let reply = step_with_luck(state, command)?;
