@@ -1,14 +1,14 @@
 -- Small journals: files whose data areas have a few units of 128 bytes each.
-use Rattle.std.proofs.Common.{ℕ, Bool, true, false, List, [], ◌∷◌, ◌++◌, replicate}
+use Rattle.std.proofs.Common.{ℕ, true, false, List, [], ◌∷◌, replicate}
 use Rattle.qls_shape.specs.declared.Version.TheVariants.{Two}
 use Rattle.qls_record.specs.declared.Kind.{Kind}
-use Rattle.qls_record.specs.declared.Kind.TheVariants.{Enqueue, Dequeue, Commit, Filler}
+use Rattle.qls_record.specs.declared.Kind.TheVariants.{Enqueue, Dequeue, Filler}
 use Rattle.qls_record.specs.Record.{Record}
 use Rattle.qls_record.specs.Spelling.{spelling}
 use Rattle.qls_filehdr.specs.declared.JournalKind.{JournalKind}
 use Rattle.qls_filehdr.specs.declared.JournalKind.TheVariants.{Queue, List as Listed}
 use Rattle.qls_meaning.specs.Journals.{Headed, Journal}
-use Rattle.qls_meaning.specs.Reading.{Placed}
+use Rattle.qls_meaning.specs.Reading.{Placed, Read}
 
 -- ---- records
 
@@ -45,13 +45,16 @@ spelled serial r = spelling Two serial r
 abbrev pub blank : ℕ → List ℕ
 blank bytes = replicate bytes 0
 
--- a record of the reading of an epoch, in the unit of that number and in as many units
+-- a record of the reading of an epoch, and of that of a journal
 abbrev pub stands : Record → ℕ → ℕ → Placed
 stands r at after = record { what = r; at = at; after = after }
 
+abbrev pub lies : Record → ℕ → ℕ → ℕ → Read
+lies r file at end_file = record { what = r; file = file; at = at; end_file = end_file }
+
 -- ---- files
 
--- the file of this number, whose id is 10 more, in this epoch
+-- the file of this number, which is its id too, of this epoch, serial, rid and first place
 abbrev pub file : JournalKind → ℕ → ℕ → ℕ → ℕ → ℕ → List ℕ → Headed
 file kind number epoch serial rid first area = record {
   id = number;
