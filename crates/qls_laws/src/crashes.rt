@@ -8,9 +8,14 @@ ghost use Rattle.qls_meaning.specs.Damage.{undamaged};
 ghost use Rattle.qls_meaning.specs.Chance.{EachPlaceOf, SpellsNoOther, SpellsWritten};
 ghost use Rattle.qls_meaning.specs.History.{History, FreeArea, last_of, is_free, is_unwritten, AllUnmarked};
 ghost use Rattle.qls_meaning.specs.Crash.{IsFairImage};
-ghost use Rattle.qls_meaning.specs.Kept.{IsWellKept, ReadsBegin, seen_journal};
+ghost use Rattle.qls_meaning.specs.Kept.{IsWellKept, ReadsBegin, Differ, ids_of, seen_journal};
 ghost use Rattle.qls_laws.specs.Readings.{SpellsWithin, UnwrittenFrom};
 ghost use Rattle.qls_laws.specs.Histories.{inner, outer};
+
+/// A crash that loses nothing spells no other record, so this premise can always be met.
+pub fn nothing_lost_spells_no_other()
+    ensures own { (i : Image) → Differ (ids_of i) → EachPlaceOf (SpellsNoOther i) i }
+{}
 
 /// What a crash leaves has the journals of the disk, and reads a prefix of each, where no torn write spells another record.
 pub fn image_reads_prefix()
