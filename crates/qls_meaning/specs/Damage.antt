@@ -20,6 +20,7 @@ use Rattle.qls_meaning.specs.Reading.{Placed, begin_place, epoch_reading, end_fr
 abbrev pub Damage : Type 0
 Damage = ℕ × Rule
 
+-- nothing fails, or the first that does
 abbrev pub Checked : Type 0
 Checked = Result (Unit {0}) Damage
 
@@ -87,6 +88,7 @@ abbrev pub ends_in : ℕ → Headed → List Headed → Headed
 ends_in p f [] = f
 ends_in p f (g ∷ fs) = if nat_lt p (length f.area) then f else ends_in (p - length f.area) g fs
 
+-- where the data area of the last file starts
 abbrev pub last_start : List Headed → ℕ
 last_start [] = 0
 last_start (f ∷ []) = 0
