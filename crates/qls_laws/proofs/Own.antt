@@ -9,7 +9,7 @@ use Rattle.qls_meaning.specs.Kept.{ids_of, Differ}
 use Rattle.qls_laws.proofs.Seen.{All-epochs, All-journals}
 use Rattle.qls_laws.proofs.CrashReading.{finds_own, IsFoundIn, found_in_use}
 
-All-of : {A : Type 0} (P : A → Type 0) → ((x : A) → P x) → (xs : List A) → AllByRecursion P xs
+pub All-of : {A : Type 0} (P : A → Type 0) → ((x : A) → P x) → (xs : List A) → AllByRecursion P xs
 All-of P f [] = tt
 All-of P f (x ∷ xs) = (f x, All-of P f xs)
 

@@ -1,13 +1,13 @@
 // Laws of what a crash leaves of journals, under the premise of no chance match, and of calls within calls.
-ghost use Rattle.std.specs.Prelude.{◌≡◌, ℕ, true, List, ◌++◌, Ok, map};
+ghost use Rattle.std.specs.Prelude.{◌≡◌, ℕ, Bool, true, List, ◌++◌, Some, Ok, map};
 ghost use Rattle.std.specs.List.{AllByRecursion};
 ghost use Rattle.qls_site.specs.Disk.{Disk, Image, IsImage, IsQuiet, full};
-ghost use Rattle.qls_site.specs.Content.{Moment};
+ghost use Rattle.qls_site.specs.Content.{Moment, Content};
 ghost use Rattle.qls_meaning.specs.Journals.{Headed, Journal, journals_of};
 ghost use Rattle.qls_meaning.specs.Damage.{undamaged};
 ghost use Rattle.qls_meaning.specs.Chance.{EachPlaceOf, SpellsNoOther, SpellsWritten};
 ghost use Rattle.qls_meaning.specs.History.{History, FreeArea, last_of, is_free, is_unwritten, AllUnmarked};
-ghost use Rattle.qls_meaning.specs.Crash.{IsFairImage};
+ghost use Rattle.qls_meaning.specs.Crash.{IsFairImage, AnyCrashLeaves};
 ghost use Rattle.qls_meaning.specs.Kept.{IsWellKept, ReadsBegin, Differ, ids_of, seen_journal};
 ghost use Rattle.qls_laws.specs.Readings.{SpellsWithin, UnwrittenFrom};
 ghost use Rattle.qls_laws.specs.Histories.{inner, outer};
@@ -50,4 +50,15 @@ pub fn fair_for_the_inner_call()
     ensures fair { (areas inner_areas : List FreeArea) (h : History) (ys : List Moment) (i : Image)
         → ((id k : ℕ) → is_free inner_areas id k ≡ true → is_unwritten areas h id k ≡ true)
         → IsFairImage areas (outer h ys) i → IsFairImage inner_areas (inner h ys) i }
+{}
+
+/// What each crash leaves in the first of two calls and in the second it leaves in both together, where the first one answered, and
+/// what the second has free was unwritten as it began. Said here of claims that a test decides; the lemma serves every claim.
+pub fn one_call_after_another()
+    ensures composed { (areas inner_areas : List FreeArea) (test : Moment → Image → Bool) (old mid new : Content) (xs ys : List Moment)
+        → mid.moments ≡ old.moments ++ xs → new.moments ≡ mid.moments ++ ys → last_of old.now xs ≡ mid.now
+        → ((id k : ℕ) → is_free inner_areas id k ≡ true → is_unwritten areas (record { start = old.now; since = xs }) id k ≡ true)
+        → AnyCrashLeaves areas (Some old) (Some mid) (λ m i. test m i ≡ true)
+        → AnyCrashLeaves inner_areas (Some mid) (Some new) (λ m i. test m i ≡ true)
+        → AnyCrashLeaves areas (Some old) (Some new) (λ m i. test m i ≡ true) }
 {}

@@ -6,3 +6,4 @@ mod Crashes
 mod Moments
 mod Returns
 mod Changed
+mod OrderlyRun
