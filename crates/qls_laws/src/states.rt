@@ -1,13 +1,8 @@
-// Laws of states: settling, and what an image means.
+// Laws of what an image means.
 ghost use Rattle.std.specs.Prelude.{◌≡◌, [], Ok};
 ghost use Rattle.qls_model.specs.Machine.{MachineState, empty_state, settle};
 ghost use Rattle.qls_site.specs.Disk.{Image};
 ghost use Rattle.qls_meaning.specs.Meaning.{meaning};
-
-/// Settling twice is settling once.
-pub fn settled_twice()
-    ensures once { (S : MachineState) → settle (settle S) ≡ settle S }
-{}
 
 /// An image without files means the empty state.
 pub fn no_files_mean_the_empty_state()
