@@ -1,9 +1,9 @@
 -- Each call keeps pending writes within their files, in whole sectors.
-use Rattle.std.proofs.Common.{◌≡◌, ℕ, zero, suc, ◌+◌, ◌*◌, ◌%◌, ◌<◌, ◌≤◌, Bool, true, false, cond, List, [], ◌∷◌, ◌++◌, length, map, replicate, eqb, ltb, Option, Some, None, slice_get, IfSome, refl, sym, ap, ◌∙◌, subst, arith}
+use Rattle.std.proofs.Common.{◌≡◌, ℕ, zero, suc, ◌+◌, ◌%◌, ◌<◌, ◌≤◌, Bool, true, false, cond, List, [], ◌∷◌, ◌++◌, length, eqb, ltb, Option, Some, slice_get, IfSome, refl, sym, subst, arith}
 use Rattle.std.proofs.lemmas.Bool.Decides.{nat_tests}
 use Rattle.qls_site.specs.declared.site.Place.{Place}
-use Rattle.qls_site.specs.Disk.{Disk, Image, IsImage, FileState, Write, full, full_file, file_of, changed, change_file, write_at, sync_at, relocate_at, create_at, with_file, all_written, at_rest, at_rest_file, LieWithin, WritesLieWithin}
-use Rattle.qls_site.specs.Chosen.{AreSectors, WritesAreSectors, chosen_image}
+use Rattle.qls_site.specs.Disk.{Disk, Image, IsImage, FileState, Write, full, file_of, change_file, write_at, with_file, all_written, at_rest, at_rest_file, LieWithin}
+use Rattle.qls_site.specs.Chosen.{AreSectors, chosen_image}
 use Rattle.qls_site.specs.Content.{Moment, Content, InFile, HasRange}
 use Rattle.qls_site.proofs.DiskLaws.{length-all_written}
 use Rattle.qls_site.proofs.ChosenLaws.{IsImage-chosen}

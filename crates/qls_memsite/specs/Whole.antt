@@ -1,5 +1,5 @@
 -- Disks of which each pending write covers whole sectors of its file, as a write's conditions ask.
-use Rattle.std.specs.Prelude.{◌≡◌, ℕ, ◌%◌, List, [], ◌∷◌, length}
+use Rattle.std.specs.Prelude.{ℕ, ◌%◌, List, [], ◌∷◌, length}
 use Rattle.std.specs.Coded.{Coded-set, coded_ℕ, ×_prop, Unit-prop, le_prop}
 use Rattle.qls_site.specs.Disk.{Disk, Write, LieWithin, WritesLieWithin}
 use Rattle.qls_site.specs.Chosen.{AreSectors, WritesAreSectors}

@@ -1,4 +1,4 @@
-use Rattle.std.proofs.Common.{sym, ap, ◌∙◌}
+use Rattle.std.proofs.Common.{ap, ◌∙◌}
 use Rattle.qls_site.specs.Chosen.{chosen_image}
 use Rattle.qls_memsite.specs.Memory.{moment_at}
 use Rattle.qls_memsite.specs.Scenes.{disk_of, moment_of}
