@@ -1,7 +1,11 @@
 //! The lock on a store's folder, by which one process at a time has the store.
 use std::fs::{File, TryLockError};
 use std::io;
+use std::os::fd::AsRawFd;
 use std::os::unix::fs::FileExt;
+
+/// The number of standard error.
+const LAST_STREAM: i32 = 2;
 
 /// How a store is shared with other processes.
 #[derive(Clone, Copy, Debug, PartialEq, Eq)]
@@ -17,6 +21,9 @@ pub trait StoreFile: FileExt {
     /// Takes the lock, or fails at once where another open of the file has one that doesn't go with
     /// it. The lock ends with the handle, at the latest with the process.
     fn try_locking(&self, how: Locking) -> io::Result<()>;
+
+    /// Whether it has the number of standard input, output or error, which was closed then.
+    fn stands_for_a_stream(&self) -> bool;
 }
 
 impl StoreFile for File {
@@ -30,5 +37,9 @@ impl StoreFile for File {
             Err(TryLockError::Error(error)) => Err(error),
             Err(TryLockError::WouldBlock) => Err(io::Error::from(io::ErrorKind::WouldBlock)),
         }
+    }
+
+    fn stands_for_a_stream(&self) -> bool {
+        self.as_raw_fd() <= LAST_STREAM
     }
 }

@@ -39,9 +39,14 @@ where
         self.sync_folder(Folder::Above)
     }
 
-    /// Opens the store's folder and locks it, without waiting.
+    /// Opens the store's folder and locks it, without waiting. It is held before any file is, so it gets
+    /// the number of a standard stream that is closed. That is a failure: answers would go into the file
+    /// that has the number of standard output.
     pub(crate) fn take_lock(&mut self) -> Result<(), Trouble> {
         let folder = fs::open(&self.rt, self.path.store())?;
+        if folder.stands_for_a_stream() {
+            return Err(Trouble::Host);
+        }
         folder.try_locking(self.locking)?;
         self.lock = Some(folder);
         Ok(())

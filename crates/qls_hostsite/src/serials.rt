@@ -1,5 +1,5 @@
 //! Serials, from the system's random numbers.
-ghost use Rattle.std.specs.Prelude.{None};
+ghost use Rattle.std.specs.Prelude.{◌≡◌, None, IfOk};
 
 use qls_model::NoMemory;
 use qls_site::{DrawError, Serials};
@@ -19,7 +19,9 @@ pub struct HostSerials<H: Runtime> {
 
 impl<H: Runtime> HostSerials<H> {
     /// Opens nothing yet. Want of memory comes where the runtime can't be cloned.
-    pub fn new(rt: &H) -> Result<HostSerials<H>, NoMemory> {
+    pub fn new(rt: &H) -> Result<HostSerials<H>, NoMemory>
+        ensures fresh { IfOk result (λ serials. ⟦<HostSerials<H> as Serials>⟧.faults serials ≡ 0) }
+    {
         Ok(HostSerials {
             rt: rt.clone()?,
             random: None,

@@ -1,5 +1,5 @@
 //! The site of a folder.
-ghost use Rattle.std.specs.Prelude.{None};
+ghost use Rattle.std.specs.Prelude.{◌≡◌, None, IfOk};
 
 use crate::lock::{Locking, StoreFile};
 use crate::store::Store;
@@ -37,13 +37,21 @@ where
     H::File: StoreFile,
 {
     /// The site of the folder of that path, which no other process has meanwhile. It touches nothing.
-    pub fn new(rt: &H, alloc: Global, dir: &str) -> Result<HostSite<H>, NoMemory> {
+    pub fn new(rt: &H, alloc: Global, dir: &str) -> Result<HostSite<H>, NoMemory>
+        ensures faults { IfOk result (λ site. ⟦<HostSite<H> as Site>⟧.faults site ≡ 0) }
+        ensures syncs { IfOk result (λ site. ⟦<HostSite<H> as Site>⟧.syncs site ≡ 0) }
+        ensures reads { IfOk result (λ site. ⟦<HostSite<H> as Site>⟧.reads site ≡ 0) }
+    {
         HostSite::with_locking(rt, alloc, dir, Locking::Exclusive)
     }
 
     /// The same to read alone, beside other processes that read. A call that would change the disk
     /// fails and touches nothing.
-    pub fn new_shared(rt: &H, alloc: Global, dir: &str) -> Result<HostSite<H>, NoMemory> {
+    pub fn new_shared(rt: &H, alloc: Global, dir: &str) -> Result<HostSite<H>, NoMemory>
+        ensures faults { IfOk result (λ site. ⟦<HostSite<H> as Site>⟧.faults site ≡ 0) }
+        ensures syncs { IfOk result (λ site. ⟦<HostSite<H> as Site>⟧.syncs site ≡ 0) }
+        ensures reads { IfOk result (λ site. ⟦<HostSite<H> as Site>⟧.reads site ≡ 0) }
+    {
         HostSite::with_locking(rt, alloc, dir, Locking::Shared)
     }
 
@@ -53,7 +61,11 @@ where
         alloc: Global,
         dir: &str,
         locking: Locking,
-    ) -> Result<HostSite<H>, NoMemory> {
+    ) -> Result<HostSite<H>, NoMemory>
+        ensures faults { IfOk result (λ site. ⟦<HostSite<H> as Site>⟧.faults site ≡ 0) }
+        ensures syncs { IfOk result (λ site. ⟦<HostSite<H> as Site>⟧.syncs site ≡ 0) }
+        ensures reads { IfOk result (λ site. ⟦<HostSite<H> as Site>⟧.reads site ≡ 0) }
+    {
         Ok(HostSite {
             store: Store::new(rt, alloc, dir, locking)?,
             faults: 0,

@@ -1,5 +1,5 @@
 //! The script, from standard input.
-ghost use Rattle.std.specs.Prelude.{None};
+ghost use Rattle.std.specs.Prelude.{◌≡◌, None, IfOk};
 ghost use Rattle.std.specs.Io.{ReadsAtMost};
 
 use qls_model::NoMemory;
@@ -16,7 +16,9 @@ pub struct HostSource<H: Runtime> {
 
 impl<H: Runtime> HostSource<H> {
     /// Reads nothing yet. Want of memory comes where the runtime can't be cloned.
-    pub fn new(rt: &H) -> Result<HostSource<H>, NoMemory> {
+    pub fn new(rt: &H) -> Result<HostSource<H>, NoMemory>
+        ensures fresh { IfOk result (λ source. ⟦<HostSource<H> as Source>⟧.faults source ≡ 0) }
+    {
         let rt = rt.clone()?;
         Ok(HostSource {
             input: rt.reader(),

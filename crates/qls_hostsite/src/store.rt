@@ -1,5 +1,5 @@
 //! The files of a store, and the calls on them, before faults are counted.
-ghost use Rattle.std.specs.Prelude.{◌≡◌, ◌+◌, ◌<◌, ◌≤◌, length};
+ghost use Rattle.std.specs.Prelude.{◌↔◌, ◌+◌, ◌≤◌, IsTrue};
 
 use crate::folders;
 use crate::handles::Handles;
@@ -29,6 +29,19 @@ static ZEROS: [u8; 65_536] = [0; 65_536];
 pub struct Known {
     pub place: Place,
     pub size: u64,
+}
+
+impl Known {
+    // Whether the file has `len` bytes from `at` on.
+    fn has_range(&self, at: u64, len: usize) -> bool
+        ensures { IsTrue result ↔ (at + len ≤ self.now.size) }
+    {
+        let size = self.size;
+        match at.checked_add(len as u64) {
+            Some(end) => end <= size,
+            None => false,
+        }
+    }
 }
 
 /// How a store stands.
@@ -134,9 +147,10 @@ where
     // The place of a file that has `len` bytes from `at` on.
     fn place_of_range(&self, id: u64, at: u64, len: usize) -> Result<Place, Trouble> {
         let known = self.known(id)?;
-        match at.checked_add(len as u64) {
-            Some(end) if end <= known.size => Ok(known.place),
-            _ => Err(Trouble::Host),
+        if known.has_range(at, len) {
+            Ok(known.place)
+        } else {
+            Err(Trouble::Host)
         }
     }
 
@@ -171,7 +185,8 @@ where
     pub fn read(&mut self, id: u64, at: u64, into: &mut [u8]) -> Result<(), Trouble> {
         self.begin()?;
         let place = self.place_of_range(id, at, into.len())?;
-        self.open(id, place)?;
+        let outcome = self.open(id, place);
+        self.ended(outcome)?;
         let Some(kept) = self.handles.get_mut(id) else {
             return Err(Trouble::Host);
         };

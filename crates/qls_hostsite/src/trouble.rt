@@ -1,5 +1,6 @@
 //! Failures of the host, before they are counted.
-ghost use Rattle.std.specs.Prelude.{◌≡◌, ◌+◌, ◌<◌, ◌≤◌, ◌^◌, Ok, Err};
+ghost use Rattle.std.specs.Prelude.{◌≡◌};
+ghost use Rattle.qls_hostsite.specs.Faults.{count_after, error_of, answer_of};
 ghost use Rattle.qls_site.specs.Content.{Causes};
 
 use qls_model::NoMemory;
@@ -52,6 +53,8 @@ pub fn in_listing(error: io::Error) -> Trouble {
 /// Counts an error, of either kind. The count stays at its greatest value.
 pub fn counted<T>(faults: &mut u64, outcome: Result<T, Trouble>) -> Result<T, SiteError>
     ensures cause { Causes faults.old faults.new result }
+    ensures counted { faults.new ≡ count_after outcome faults.old }
+    ensures answered { result ≡ answer_of outcome }
 {
     match outcome {
         Ok(value) => Ok(value),
@@ -62,7 +65,9 @@ pub fn counted<T>(faults: &mut u64, outcome: Result<T, Trouble>) -> Result<T, Si
     }
 }
 
-fn answer_to(trouble: Trouble) -> SiteError {
+fn answer_to(trouble: Trouble) -> SiteError
+    ensures { result ≡ error_of trouble }
+{
     match trouble {
         Trouble::Host => SiteError::Failed,
         Trouble::Memory => SiteError::Memory,
