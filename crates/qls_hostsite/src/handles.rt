@@ -1,5 +1,5 @@
 //! Open files that are kept, so that a write in steady state opens nothing.
-ghost use Rattle.std.specs.Prelude.{◌≡◌, ◌<◌, ◌≤◌, length, IfOk, IfSome};
+ghost use Rattle.std.specs.Prelude.{◌≡◌, IfSome};
 
 use crate::trouble::Trouble;
 use std::alloc::{AllocError, Global};
@@ -33,7 +33,9 @@ impl<H: Runtime> Handles<H> {
     }
 
     /// The open file of this id, where it is kept.
-    pub fn get_mut(&mut self, id: u64) -> Option<&mut Kept<H>> {
+    pub fn get_mut(&mut self, id: u64) -> Option<&mut Kept<H>>
+        ensures this { IfSome result (λ kept. kept.now.id ≡ id) }
+    {
         self.kept.iter_mut().find(|kept| kept.id == id)
     }
 

@@ -1,4 +1,7 @@
 //! The folders of a store, and the texts of paths, which are made in a buffer that is kept.
+ghost use Rattle.std.specs.Prelude.{◌≡◌};
+ghost use Rattle.qls_hostsite.specs.Places.{folder_of, holder_of};
+
 use crate::names::{UNFINISHED, WHOLE};
 use qls_site::Place;
 use std::alloc::{AllocError, Global};
@@ -20,7 +23,9 @@ pub enum Folder {
 
 impl Folder {
     /// The folder in which files of this place lie.
-    pub fn of(place: Place) -> Folder {
+    pub fn of(place: Place) -> Folder
+        ensures { result ≡ folder_of place }
+    {
         match place {
             Place::InUse => Folder::InUse,
             Place::Empty { part, kib } => Folder::Pool(part, kib),
@@ -28,7 +33,9 @@ impl Folder {
     }
 
     /// The folder that holds this one.
-    pub fn holder(self) -> Folder {
+    pub fn holder(self) -> Folder
+        ensures { result ≡ holder_of self }
+    {
         match self {
             Folder::Above | Folder::Store => Folder::Above,
             Folder::InUse | Folder::Empty => Folder::Store,

@@ -1,4 +1,4 @@
-use crate::{HostSerials, HostSite};
+use crate::{HostSerials, HostSite, names};
 use qls_site::{FileAt, Place, Serials, Site, SiteError};
 use std::fs;
 use std::os::unix::fs::symlink;
@@ -60,6 +60,36 @@ fn makes_moves_writes_and_reads(rt: HostRuntime) -> Result<(), Fail> {
     drop(site);
     assert_eq!(rt; fs::read(&rt, USED)?.len(), 8192);
     fs::remove_dir_all(&rt, FOLDER)?;
+    Ok(())
+}
+
+// Names of files and of pools, and names that are passed over.
+#[test]
+fn reads_names(rt: HostRuntime) -> Result<(), Fail> {
+    for (name, id) in [
+        ("0000000000000000007.qls", Some(7)),
+        ("0000000000000000000.qls", Some(0)),
+        ("9999999999999999999.qls", Some(9_999_999_999_999_999_999)),
+        ("0000000000000000007.new", None),
+        ("000000000000000007.qls", None),
+        ("00000000000000000007.qls", None),
+        ("000000000000000000a.qls", None),
+        ("+000000000000000007.qls", None),
+    ] {
+        assert_eq!(rt; names::id_in(name), id, "at {name}");
+    }
+    for (name, number) in [
+        ("0", Some(0)),
+        ("999", Some(999)),
+        ("4294967295", Some(4_294_967_295)),
+        ("4294967296", None),
+        ("04", None),
+        ("00", None),
+        ("+4", None),
+        ("", None),
+    ] {
+        assert_eq!(rt; names::number_in(name), number, "at {name}");
+    }
     Ok(())
 }
 

@@ -1,5 +1,6 @@
 //! Failures of the host, before they are counted.
 ghost use Rattle.std.specs.Prelude.{◌≡◌};
+ghost use Rattle.qls_hostsite.specs.declared.trouble.Trouble.TheVariants.{Host, Memory};
 ghost use Rattle.qls_hostsite.specs.Faults.{count_after, error_of, answer_of};
 ghost use Rattle.qls_site.specs.Content.{Causes};
 
@@ -16,18 +17,24 @@ pub enum Trouble {
 }
 
 impl From<AllocError> for Trouble {
+    ghost from_gives = { λ _ trouble. trouble ≡ Memory };
+
     fn from(_error: AllocError) -> Trouble {
         Trouble::Memory
     }
 }
 
 impl From<NoMemory> for Trouble {
+    ghost from_gives = { λ _ trouble. trouble ≡ Memory };
+
     fn from(_error: NoMemory) -> Trouble {
         Trouble::Memory
     }
 }
 
 impl<T: Drop> From<AllocFailed<T>> for Trouble {
+    ghost from_gives = { λ _ trouble. trouble ≡ Memory };
+
     fn from(_error: AllocFailed<T>) -> Trouble {
         Trouble::Memory
     }
@@ -36,6 +43,8 @@ impl<T: Drop> From<AllocFailed<T>> for Trouble {
 // A call of the system may have been done in part when the system wants memory, so that is no want
 // of memory of the program's own.
 impl From<io::Error> for Trouble {
+    ghost from_gives = { λ _ trouble. trouble ≡ Host };
+
     fn from(_error: io::Error) -> Trouble {
         Trouble::Host
     }
