@@ -63,7 +63,9 @@ where
             let entry = entry.map_err(in_listing)?;
             self.take_file(place, &entry)?;
         }
-        self.sync_folder(folder)
+        self.sync_folder(folder)?;
+        self.note_ready(place);
+        Ok(())
     }
 
     fn take_file(&mut self, place: Place, entry: &DirEntry<H, H::A>) -> Result<(), Trouble> {

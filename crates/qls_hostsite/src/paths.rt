@@ -1,6 +1,7 @@
 //! The folders of a store, and the texts of paths, which are made in a buffer that is kept.
-ghost use Rattle.std.specs.Prelude.{◌≡◌};
-ghost use Rattle.qls_hostsite.specs.Places.{folder_of, holder_of};
+ghost use Rattle.std.specs.Prelude.{◌≡◌, ◌++◌, codes, IfOk};
+ghost use Rattle.std.specs.String.{string_bytes};
+ghost use Rattle.qls_hostsite.specs.Places.{folder_of, holder_of, folder_path, file_path};
 
 use crate::names::{UNFINISHED, WHOLE};
 use qls_site::Place;
@@ -54,7 +55,9 @@ pub struct PathText {
 
 impl PathText {
     /// For a store in the folder of this text.
-    pub fn new(alloc: Global, store: &str) -> Result<PathText, AllocError> {
+    pub fn new(alloc: Global, store: &str) -> Result<PathText, AllocError>
+        ensures store { IfOk result (λ path. string_bytes path.store ≡ store.now) }
+    {
         let mut text = String::from_str(alloc, store)?;
         text.reserve(LONGEST_TAIL)?;
         let store = String::from_str(alloc, store)?;
@@ -62,17 +65,24 @@ impl PathText {
     }
 
     /// The text of the store's folder.
-    pub fn store(&self) -> &str {
+    pub fn store(&self) -> &str
+        ensures same { result.now ≡ string_bytes self.now.store }
+    {
         self.store.as_str()
     }
 
     /// The path that was made last.
-    pub fn as_str(&self) -> &str {
+    pub fn as_str(&self) -> &str
+        ensures same { result.now ≡ string_bytes self.now.text }
+    {
         self.text.as_str()
     }
 
     /// Makes a folder's path.
-    pub fn folder(&mut self, folder: Folder) -> Result<(), AllocError> {
+    pub fn folder(&mut self, folder: Folder) -> Result<(), AllocError>
+        ensures path { IfOk result (λ _. string_bytes self.new.text ≡ folder_path (string_bytes self.old.store) folder) }
+        ensures store { self.new.store ≡ self.old.store }
+    {
         let store = self.store.as_str();
         self.text.clear();
         match folder {
@@ -86,19 +96,30 @@ impl PathText {
     }
 
     /// Makes the path of the folder that holds this one, which stands above the store.
-    pub fn holder_of(&mut self, path: &str) -> Result<(), AllocError> {
+    pub fn holder_of(&mut self, path: &str) -> Result<(), AllocError>
+        ensures path { IfOk result (λ _. string_bytes self.new.text ≡ path.now ++ codes "/..") }
+        ensures store { self.new.store ≡ self.old.store }
+    {
         self.text.clear();
         write!(self.text, "{path}/..")
     }
 
     /// Makes the path of a file of the store.
-    pub fn file(&mut self, place: Place, id: u64) -> Result<(), AllocError> {
+    #[tactic(auto, using(crate::proofs::Digits::zeros_lead))]
+    pub fn file(&mut self, place: Place, id: u64) -> Result<(), AllocError>
+        ensures path { IfOk result (λ _. string_bytes self.new.text ≡ file_path (string_bytes self.old.store) place id (codes ".qls")) }
+        ensures store { self.new.store ≡ self.old.store }
+    {
         self.folder(Folder::of(place))?;
         write!(self.text, "/{id:019}{WHOLE}")
     }
 
     /// Makes the path of a file that is being made.
-    pub fn unfinished(&mut self, place: Place, id: u64) -> Result<(), AllocError> {
+    #[tactic(auto, using(crate::proofs::Digits::zeros_lead))]
+    pub fn unfinished(&mut self, place: Place, id: u64) -> Result<(), AllocError>
+        ensures path { IfOk result (λ _. string_bytes self.new.text ≡ file_path (string_bytes self.old.store) place id (codes ".new")) }
+        ensures store { self.new.store ≡ self.old.store }
+    {
         self.folder(Folder::of(place))?;
         write!(self.text, "/{id:019}{UNFINISHED}")
     }

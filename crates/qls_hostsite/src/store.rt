@@ -10,7 +10,7 @@ use crate::trouble::Trouble;
 use qls_model::{NoMemory, Seq};
 use qls_site::{FileAt, Place};
 use std::alloc::Global;
-use std::collections::BTreeMap;
+use std::collections::{BTreeMap, BTreeSet};
 use std::fs::{self, OpenFile, OpenOptions};
 use std::io::{self, ErrorKind};
 use std::os::unix::fs::FileExt;
@@ -69,9 +69,9 @@ pub struct Store<H: Runtime> {
     pub(crate) files: BTreeMap<u64, Known>,
     standing: Standing,
     handles: Handles<H>,
-    /// The last two folders of files that were made or found durable in this process.
-    ready_in_use: bool,
-    ready_pool: Option<Place>,
+    /// Folders of files that this process has made or found, and whose names are durable.
+    in_use_is_ready: bool,
+    ready_pools: BTreeSet<(u16, u32)>,
 }
 
 impl<H: Runtime> Store<H>
@@ -95,8 +95,8 @@ where
             files: BTreeMap::new(alloc),
             standing: Standing::Untouched,
             handles: Handles::new(alloc)?,
-            ready_in_use: false,
-            ready_pool: None,
+            in_use_is_ready: false,
+            ready_pools: BTreeSet::new(alloc),
         })
     }
 
@@ -115,6 +115,8 @@ where
             Err(trouble) => {
                 self.lock = None;
                 self.files.clear();
+                self.in_use_is_ready = false;
+                self.ready_pools.clear();
                 self.ended(Err(trouble))
             }
         }
@@ -283,22 +285,34 @@ where
         Ok(())
     }
 
-    // Sees that the folder of a place is there, and durable. It is asked once while it is in use.
+    // Sees that the folder of a place is there, and its name durable. It is asked of the system once.
     fn make_ready(&mut self, place: Place) -> Result<(), Trouble> {
+        if self.is_ready(place) {
+            return Ok(());
+        }
+        if let Place::Empty { part, .. } = place {
+            self.make_folder(Folder::Empty)?;
+            self.make_folder(Folder::Part(part))?;
+        }
+        self.make_folder(Folder::of(place))?;
+        self.note_ready(place);
+        Ok(())
+    }
+
+    fn is_ready(&self, place: Place) -> bool {
         match place {
-            Place::InUse if self.ready_in_use => Ok(()),
-            Place::InUse => {
-                self.make_folder(Folder::InUse)?;
-                self.ready_in_use = true;
-                Ok(())
-            }
-            Place::Empty { .. } if self.ready_pool == Some(place) => Ok(()),
+            Place::InUse => self.in_use_is_ready,
+            Place::Empty { part, kib } => self.ready_pools.contains(&(part, kib)),
+        }
+    }
+
+    /// Notes that the folder of a place is there, and its name durable. Where that wants memory the
+    /// system is asked again another time.
+    pub(crate) fn note_ready(&mut self, place: Place) {
+        match place {
+            Place::InUse => self.in_use_is_ready = true,
             Place::Empty { part, kib } => {
-                self.make_folder(Folder::Empty)?;
-                self.make_folder(Folder::Part(part))?;
-                self.make_folder(Folder::Pool(part, kib))?;
-                self.ready_pool = Some(place);
-                Ok(())
+                let _ = self.ready_pools.insert((part, kib));
             }
         }
     }
