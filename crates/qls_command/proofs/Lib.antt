@@ -2,3 +2,4 @@ pub mod Cutting
 pub mod Numbers
 pub mod HexWords
 pub mod Writing
+pub mod Drawing

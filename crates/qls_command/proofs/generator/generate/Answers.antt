@@ -1,0 +1,15 @@
+use Rattle.std.proofs.Common.{◌++◌, ◌-◌, ap, take, ◌∙◌, List, ℕ}
+use Rattle.qls_model.specs.declared.machine.Command.{Command}
+use Rattle.qls_command.specs.Generated.{begun, drawn_from, first_commands}
+use Rattle.qls_command.proofs.Drawing.{generated-whole, length-drawn_from}
+use Rattle.qls_command.proofs.generator.generate.Goals as goal
+
+pub returns : goal.returns
+returns c =
+    let drawn = drawn_from (begun c.args.seed) 5 (c.args.count - 4) in
+    record {
+      commands = c.in_ok-draw_into.ensures.drawn
+          ∙ ap (λ (k : List Command). k ++ drawn) c.in_ok-commands.ensures.commands
+          ∙ ap (λ (n : ℕ). take n first_commands ++ drawn) c.min.ensures
+          ∙ generated-whole c.args.count drawn (length-drawn_from (begun c.args.seed) 5 (c.args.count - 4));
+    }
