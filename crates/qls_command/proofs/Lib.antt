@@ -3,3 +3,4 @@ pub mod Numbers
 pub mod HexWords
 pub mod Writing
 pub mod Drawing
+pub mod Listing

@@ -1,5 +1,5 @@
 -- Numbers of decimal digits.
-use Rattle.std.proofs.Common.{◌≡◌, ℕ, suc, ◌+◌, ◌-◌, ◌*◌, ◌^◌, ◌<◌, ◌≤◌, Bool, true, false, List, [], ◌∷◌, length, refl, ap, sym, ◌∙◌, arith, get_or, lit<, subst, None, inl, inr, rules, mul-le-mul_right, mul_assoc, mul_comm}
+use Rattle.std.proofs.Common.{◌≡◌, ℕ, suc, ◌+◌, ◌-◌, ◌*◌, ◌^◌, ◌<◌, ◌≤◌, Bool, true, false, ◌&&◌, ◌==◌, nat_lt, List, [], ◌∷◌, length, refl, ap, sym, ◌∙◌, arith, get_or, lit<, subst, None, inl, inr, rules, mul-le-mul_right, mul_assoc, mul_comm}
 use Rattle.std.proofs.lemmas.Bool.{cases_eq}
 use Rattle.std.proofs.lemmas.Grind.{pow_more}
 use Rattle.std.proofs.lemmas.Str.Parse.{IsNumeralModel, numerals_by_fold, tells_all_ascii_digits, digits_value_short}
@@ -79,9 +79,16 @@ number_test w h some few lead =
     equal_tests _ _ (only_digits w h few)
     (λ digits. (bytes_eq-Decides w (decimal (digits_value w))).1 (sym (decimal-digits_value own w digits some lead (digits_below w few digits))))
 
-pub number-digits : (w : List ℕ) → AllBytes w → 0 < length w → length w < 20 → (get_or w 0 0 ≡ 48 → length w ≡ 1)
+-- a zero stands before other digits
+abbrev pub leads_with_zero : List ℕ → Bool
+leads_with_zero w = nat_lt 1 (length w) && get_or w 0 0 == 48
+
+zero_alone : (w : List ℕ) → 0 < length w → leads_with_zero w ≡ false → get_or w 0 0 ≡ 48 → length w ≡ 1
+zero_alone w some none zero = grind arith
+
+pub number-digits : (w : List ℕ) → AllBytes w → 0 < length w → length w < 20 → leads_with_zero w ≡ false
     → where_true (all_ascii_digits w) (digits_value w) ≡ number_of_word w
-number-digits w h some few lead = let e = number_test w h some few lead in grind (arith, e)
+number-digits w h some few none = let e = number_test w h some few (zero_alone w some none) in grind (arith, e)
 
 pub number-long : (w : List ℕ) → 19 < length w → number_of_word w ≡ None
 number-long w long = grind arith
@@ -110,7 +117,12 @@ zero_first w h few lead long e =
           omega arith
     ]
 
-pub number-zero_first : (w : List ℕ) → AllBytes w → length w < 20 → get_or w 0 0 ≡ 48 → 1 < length w → number_of_word w ≡ None
-number-zero_first w h few lead long =
+leads : (w : List ℕ) → leads_with_zero w ≡ true → (get_or w 0 0 ≡ 48) × (1 < length w)
+leads w h = (grind arith, grind arith)
+
+pub number-zero_first : (w : List ℕ) → AllBytes w → length w < 20 → leads_with_zero w ≡ true → number_of_word w ≡ None
+number-zero_first w h few both =
+    let lead = (leads w both).0 in
+    let long = (leads w both).1 in
     let k : same w (decimal (digits_value w)) ≡ false = false_by (same w (decimal (digits_value w))) (zero_first w h few lead long) in
     grind (arith, k)

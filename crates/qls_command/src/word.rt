@@ -1,5 +1,5 @@
 //! The values of single words.
-ghost use Rattle.std.specs.Prelude.{◌≡◌, ◌<◌, Some, None, IfOk, length};
+ghost use Rattle.std.specs.Prelude.{◌≡◌, ◌<◌, ◌==◌, ◌&&◌, nat_lt, slice_index, Some, None, IfOk, length};
 ghost use Rattle.std.specs.Str.{all_ascii_digits};
 ghost use Rattle.std.specs.List.{list_all};
 ghost use Rattle.qls_model.specs.Limits.{is_name_byte};
@@ -60,10 +60,17 @@ fn number(word: &[u8]) -> Option<u64>
     if word.is_empty() || word.len() > NUMBER_DIGITS {
         return None;
     }
-    if word[0] == b'0' && word.len() > 1 {
+    if has_leading_zero(word) {
         return None;
     }
     digits(word)
+}
+
+/// Whether a zero stands before other digits.
+fn has_leading_zero(word: &[u8]) -> bool
+    ensures { result ≡ (nat_lt 1 (length word.now) && slice_index word.now 0 == 48) }
+{
+    word.len() > 1 && word[0] == b'0'
 }
 
 /// The number of a message, 1 to 2^62 - 1.

@@ -1,6 +1,6 @@
-use Rattle.std.proofs.Common.{arith, rules, sym, ◌∙◌}
+use Rattle.std.proofs.Common.{arith, sym, ◌∙◌}
 use Rattle.qls_command.proofs.Numbers.{AllBytes, number-digits, number-long, number-empty, number-zero_first}
-use Rattle.qls_command.proofs.word.number.Goals.{then-is_empty-via-then-is_empty, then-is_empty-via-else-is_empty+then-word-gt-NUMBER_DIGITS, else-word-eq48-via-then-word-eq48+else-word-gt1, else-word-eq48-via-else-word-eq48}
+use Rattle.qls_command.proofs.word.number.Goals.{then-is_empty-via-then-is_empty, then-is_empty-via-else-is_empty+then-word-gt-NUMBER_DIGITS}
 use Rattle.qls_command.proofs.word.number.Goals as goal
 
 pub returns-then-is_empty : goal.returns-then-is_empty
@@ -9,16 +9,13 @@ returns-then-is_empty c = elim c.then-is_empty.branch [
   | then-is_empty-via-else-is_empty+then-word-gt-NUMBER_DIGITS w ↦ sym (number-long c.args.word.now (omega arith))
 ]
 
-pub returns-then-word-gt1 : goal.returns-then-word-gt1
-returns-then-word-gt1 c =
+pub returns-then-has_leading_zero : goal.returns-then-has_leading_zero
+returns-then-has_leading_zero c =
     let bytes : AllBytes c.args.word.now = λ i. omega (arith, c.type_inv.word i) in
-    sym (number-zero_first c.args.word.now bytes (omega arith) (search rules) (omega arith))
+    sym (number-zero_first c.args.word.now bytes (omega arith) (sym c.has_leading_zero.ensures ∙ c.if-has_leading_zero.true))
 
 pub returns : goal.returns
 returns c =
     let bytes : AllBytes c.args.word.now = λ i. omega (arith, c.type_inv.word i) in
     c.digits.ensures
-    ∙ number-digits c.args.word.now bytes (grind arith) (omega arith) (λ e. elim c.else-word-eq48.branch [
-      | else-word-eq48-via-then-word-eq48+else-word-gt1 w ↦ grind arith
-      | else-word-eq48-via-else-word-eq48 w ↦ absurd (w.if-word-eq48.false e)
-    ])
+    ∙ number-digits c.args.word.now bytes (grind arith) (omega arith) (sym c.has_leading_zero.ensures ∙ c.if-has_leading_zero.false)

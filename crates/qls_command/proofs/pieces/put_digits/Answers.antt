@@ -1,6 +1,6 @@
 use Rattle.std.proofs.Common.{arith}
 use Rattle.qls_command.proofs.Writing.{chunk_step, chunks_done}
-use Rattle.qls_command.proofs.text.put_digits.Goals as goal
+use Rattle.qls_command.proofs.pieces.put_digits.Goals as goal
 
 pub loop-rest-preserved : goal.loop-rest-preserved
 loop-rest-preserved c =
