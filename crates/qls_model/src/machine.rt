@@ -1,8 +1,6 @@
 // The types of the plain machine.
 use crate::bytes::{Bytes, Seq};
 use crate::name::{Name, Xid};
-use std::alloc::Global;
-use std::marker::Model;
 
 /// A pool of empty files: its partition, and the KiB of data of its files.
 #[derive(Clone, Copy, Debug, PartialEq, Eq)]
@@ -123,33 +121,9 @@ pub enum Verdict {
     Doubt,
 }
 
-/// The state of the plain machine.
-#[derive(Drop)]
-pub struct State {
-    queues: Seq<QueueState>,
-    xids: Seq<(Xid, Phase)>,
-}
-
-impl Model for State {
-    ghost use Rattle.std.specs.Prelude.{map};
-    ghost use Rattle.qls_model.specs.Machine.{MachineState};
-
-    ghost Value = { MachineState };
-
-    ghost view = { λ a. record { queues = a.queues; xids = map (λ e. record { xid = e.0; phase = e.1 }) a.xids } };
-}
-
-impl State {
-    ghost use Rattle.std.specs.Prelude.{◌≡◌};
-    ghost use Rattle.qls_model.specs.Machine.{empty_state};
-
-    /// No queue and no xid.
-    pub fn empty(alloc: Global) -> State
-        ensures { result ≡ empty_state }
-    {
-        State {
-            queues: Seq::new(alloc),
-            xids: Seq::new(alloc),
-        }
-    }
+/// A transaction that has begun, and how far it is.
+#[derive(Clone, Copy)]
+pub struct XidState {
+    pub xid: Xid,
+    pub phase: Phase,
 }
