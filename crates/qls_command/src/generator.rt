@@ -4,7 +4,7 @@ ghost use Rattle.std.specs.Int.{w64};
 ghost use Rattle.qls_command.specs.Generated.{generated, begun, drawn_from, first_commands, ends_open, queue_name as name_of_queue, xid_of_number, body_from};
 
 use qls_model::{Bytes, Command, Name, NoMemory, Seq, Xid};
-use std::alloc::{AllocError, Global};
+use std::alloc::Global;
 use std::marker::Model;
 
 /// How many queues there are, made by the first commands.
@@ -75,9 +75,7 @@ fn body(alloc: Global, drawn: u64) -> Result<Bytes, NoMemory>
     let size = drawn / 32 % 300;
     let mut bytes = Vec::with_capacity(alloc, size as usize)?;
     for place in 0..size {
-        bytes
-            .push(((drawn + place) % 256) as u8)
-            .map_err(AllocError::from)?;
+        bytes.push(((drawn + place) % 256) as u8)?;
     }
     Ok(Bytes::from_vec(bytes))
 }

@@ -1,5 +1,5 @@
 use super::*;
-use qls_model::{Bytes, Command, Message, Name, Refusal, Reply, Seq, Status, Xid};
+use qls_model::{Bytes, Command, Message, Name, Refusal, Reply, Seq, State, Status, Xid, step};
 use std::alloc::{AllocError, Global};
 use std::test::Fail;
 
@@ -211,19 +211,92 @@ const OF_SEED_7: [&str; 24] = [
     "abort [0, 0, 0, 0, 0, 0, 0, 22]",
 ];
 
+/// Those of seed 44, with a transaction that is prepared.
+const OF_SEED_44: [&str; 12] = [
+    "make q1",
+    "make q2",
+    "make q3",
+    "make q4",
+    "put q1 113 x 20",
+    "take q1 1",
+    "put q2 114 x 186",
+    "put q4 224 x 226",
+    "begin [0, 0, 0, 0, 0, 0, 0, 9]",
+    "prepare [0, 0, 0, 0, 0, 0, 0, 9]",
+    "list q2",
+    "take q2 1",
+];
+
 #[test]
 fn generated(rt: HostRuntime) -> Result<(), Fail> {
     let alloc = rt.alloc();
-    for count in [0, 3, 5, 24] {
-        let commands = generate(alloc, 7, count)?;
-        assert_eq!(rt; commands.len() as u64, count);
-        for (command, meant) in commands.as_slice().iter().zip(OF_SEED_7) {
+    let table = [
+        (7, 0, OF_SEED_7.as_slice()),
+        (7, 3, OF_SEED_7.as_slice()),
+        (7, 5, OF_SEED_7.as_slice()),
+        (7, 24, OF_SEED_7.as_slice()),
+        (44, 12, OF_SEED_44.as_slice()),
+        (u64::MAX, 20_000, &OF_SEED_44[..4]),
+    ];
+    for (seed, count, meant) in &table {
+        let commands = generate(alloc, *seed, *count)?;
+        assert_eq!(rt; commands.len() as u64, *count);
+        for (command, meant) in commands.as_slice().iter().zip(*meant) {
             let shown = shown_command(alloc, command)?;
-            assert_eq!(rt; shown.as_str(), meant);
+            assert_eq!(rt; shown.as_str(), *meant, "seed {seed}");
         }
     }
-    let most = generate(alloc, u64::MAX, 20_000)?;
-    assert_eq!(rt; most.len(), 20_000);
+    Ok(())
+}
+
+/// Commands in a row, the text of the state after each, and the sum of that text.
+#[test]
+fn states(rt: HostRuntime) -> Result<(), Fail> {
+    let alloc = rt.alloc();
+    let table = [
+        (
+            "queue q1",
+            "queues 1\nqueue q1 last 0 messages 0\ndoubt 0\n",
+        ),
+        (
+            "queue a",
+            "queues 2\nqueue a last 0 messages 0\nqueue q1 last 0 messages 0\ndoubt 0\n",
+        ),
+        (
+            "put q1 AB",
+            "queues 2\nqueue a last 0 messages 0\nqueue q1 last 1 messages 1\n1 ready ab\ndoubt 0\n",
+        ),
+        (
+            "begin 0C",
+            "queues 2\nqueue a last 0 messages 0\nqueue q1 last 1 messages 1\n1 ready ab\ndoubt 0\n",
+        ),
+        (
+            "put q1 - in 0c",
+            "queues 2\nqueue a last 0 messages 0\nqueue q1 last 2 messages 2\n1 ready ab\n2 coming 0c -\ndoubt 0\n",
+        ),
+        (
+            "take q1 1 in 0c",
+            "queues 2\nqueue a last 0 messages 0\nqueue q1 last 2 messages 2\n1 going 0c ab\n2 coming 0c -\ndoubt 0\n",
+        ),
+        (
+            "prepare 0c",
+            "queues 2\nqueue a last 0 messages 0\nqueue q1 last 2 messages 2\n1 going 0c ab\n2 coming 0c -\ndoubt 1\n0c\n",
+        ),
+    ];
+    let mut state = State::empty(alloc);
+    let none = state_text(alloc, &state)?;
+    assert_eq!(rt; none.as_slice(), b"queues 0\ndoubt 0\n".as_slice());
+    for (line, text) in table {
+        if let Parsed::Good(command) = parse_line(alloc, line.as_bytes())? {
+            step(&mut state, &command)?;
+        }
+        let shown = state_text(alloc, &state)?;
+        assert_eq!(rt; shown.as_slice(), text.as_bytes(), "after {line:?}");
+        if line == "queue q1" {
+            assert_eq!(rt; shown.as_slice().len(), 44);
+            assert_eq!(rt; qls_shape::adler(shown.as_slice()), 0x5101_0e49);
+        }
+    }
     Ok(())
 }
 
