@@ -1,4 +1,4 @@
-use Rattle.std.proofs.Common.{arith, sym, ap, ◌∙◌, ◌≡◌, Some, slice_get}
+use Rattle.std.proofs.Common.{arith, sym, ◌≡◌, Some, slice_get}
 use Rattle.std.proofs.lemmas.Grind.{common_steps}
 use Rattle.qls_command.proofs.Listing.{drop-item}
 use Rattle.qls_command.proofs.state.put_queues.Goals as goal
