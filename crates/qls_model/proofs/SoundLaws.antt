@@ -1,5 +1,5 @@
 -- Each step and settling keep what holds of each state.
-use Rattle.std.proofs.Common.{◌≡◌, ℕ, ◌+◌, ◌-◌, ◌<◌, ◌≤◌, ◌^◌, eqb, Bool, true, false, cond, not, Option, Some, None, is_some, is_none, IsSomeAnd, Result, Ok, Err, IfOk, IfErr, List, [], ◌∷◌, ◌++◌, map, filter, find, lit<, refl, sym, ap, subst, ◌∙◌, arith}
+use Rattle.std.proofs.Common.{◌≡◌, ℕ, ◌+◌, ◌-◌, ◌<◌, ◌^◌, eqb, Bool, true, false, cond, not, Option, Some, None, is_some, is_none, IsSomeAnd, Result, Ok, Err, IfOk, IfErr, List, [], ◌∷◌, ◌++◌, map, filter, find, lit<, refl, sym, ap, subst, ◌∙◌, arith}
 use Rattle.std.proofs.lemmas.Bool.{false≢true}
 use Rattle.std.proofs.lemmas.Bool.Decides.{nat_tests}
 use Rattle.std.specs.List.{AllByRecursion}

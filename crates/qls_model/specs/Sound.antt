@@ -1,5 +1,5 @@
 -- What holds of each state of the program: no name and no xid stands twice, and numbers rise to the last one, which has room.
-use Rattle.std.specs.Prelude.{◌≡◌, ℕ, ◌<◌, ◌≤◌, ◌^◌, Bool, false, List, [], ◌∷◌}
+use Rattle.std.specs.Prelude.{◌≡◌, ℕ, ◌<◌, ◌≤◌, ◌^◌, false, List, [], ◌∷◌}
 use Rattle.std.specs.List.{AllByRecursion}
 use Rattle.qls_model.specs.Bytes.{same}
 use Rattle.qls_model.specs.Machine.{XidState}

@@ -1,5 +1,6 @@
 // What the end of a transaction leaves of the messages.
 ghost use Rattle.std.specs.Prelude.{◌≡◌, map, filter};
+ghost use Rattle.qls_model.specs.Bytes.{same};
 ghost use Rattle.qls_model.specs.Messages.{only, decided};
 ghost use Rattle.qls_model.specs.Ends.{messages_left, status_left, with_status_left, stays};
 
@@ -11,14 +12,21 @@ fn left_status(status: &Status, xid: &Xid, verdict: Verdict) -> Option<Status>
     ensures { result ≡ status_left (only xid.now verdict) status.now }
 {
     match (status, verdict) {
-        (Status::Coming(by), Verdict::Commit) | (Status::Going(by), Verdict::Abort)
-            if by.as_slice() == xid.as_slice() => { Some(Status::Ready) }
-        (Status::Coming(by), Verdict::Abort) | (Status::Going(by), Verdict::Commit)
-            if by.as_slice() == xid.as_slice() => { None }
+        (Status::Coming(by), Verdict::Commit) if is_same(by, xid) => Some(Status::Ready),
+        (Status::Coming(by), Verdict::Abort) if is_same(by, xid) => None,
+        (Status::Going(by), Verdict::Commit) if is_same(by, xid) => None,
+        (Status::Going(by), Verdict::Abort) if is_same(by, xid) => Some(Status::Ready),
         _ => Some(*status),
     }
 }
 
+fn is_same(first: &Xid, second: &Xid) -> bool
+    ensures { result ≡ same first.now second.now }
+{
+    first.as_slice() == second.as_slice()
+}
+
+/// Gives the message the status that the verdict leaves, where there is one.
 fn set_left_status(message: &mut Message, xid: &Xid, verdict: Verdict)
     ensures { message.new ≡ with_status_left (only xid.now verdict) message.old }
 {
@@ -35,6 +43,7 @@ fn set_left_statuses(messages: &mut [Message], xid: &Xid, verdict: Verdict)
     }
 }
 
+/// Drops the messages that the verdict leaves no status.
 fn retain_staying(messages: &mut Vec<Message>, xid: &Xid, verdict: Verdict)
     ensures { messages.new.items ≡ filter (stays (only xid.now verdict)) messages.old.items }
 {

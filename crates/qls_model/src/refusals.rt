@@ -120,9 +120,9 @@ fn admit_take(
 ) -> Result<(), Refusal>
     ensures { result_err result ≡ first_true (refusals (record { queues = queues.now; xids = xids.now }) (command_of.Take name.now number xid.now)) }
 {
-    let queue = find_queue(queues, name).ok_or(Refusal::Queue)?;
+    let from = find_queue(queues, name).ok_or(Refusal::Queue)?;
     admit_xid(xids, xid)?;
-    let message = find_message(queue.messages.as_slice(), number).ok_or(Refusal::Message)?;
+    let message = find_message(from.messages.as_slice(), number).ok_or(Refusal::Message)?;
     if !is_ready(&message.status) {
         return Err(Refusal::Locked);
     }

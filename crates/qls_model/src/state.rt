@@ -42,7 +42,8 @@ impl State {
         }
     }
 
-    /// Puts the queue at its place by name. Where memory is wanting it is dropped, and the state stays.
+    /// Puts the queue, whose name is not there, at its place by name. Where memory is wanting it is dropped, and the
+    /// state stays.
     pub fn put_queue(&mut self, queue: QueueState) -> Result<(), NoMemory>
         requires absent { queue_named queue.name self.old.queues ≡ None }
         requires last { queue.last < 2 ^ 62 }
@@ -53,7 +54,7 @@ impl State {
         add_queue(&mut self.queues, queue)
     }
 
-    /// Puts a prepared xid at its place in byte order. Where memory is wanting the state stays.
+    /// Puts an xid that is not there, prepared, at its place in byte order. Where memory is wanting the state stays.
     pub fn put_prepared(&mut self, xid: Xid) -> Result<(), NoMemory>
         requires absent { xid_named xid self.old.xids ≡ None }
         ensures added { IfOk result (λ _. self.new ≡ record self.old { xids = with_xid (record { xid = xid; phase = Phase.Prepared }) self.old.xids }) }
@@ -102,8 +103,8 @@ impl State {
 ghost use Rattle.std.specs.Prelude.{◌≡◌, IfOk, IfErr};
 ghost use Rattle.qls_model.specs.Machine.{step, settle};
 
-/// One step of the plain machine: what the command does to the state, and its reply. Where memory is wanting the state
-/// stays.
+/// One step of the plain machine: what the command does to the state, and its reply. A refusal is a reply, the first of
+/// the table that applies, and leaves the state. Where memory is wanting the state stays too.
 pub fn step(state: &mut State, command: &Command) -> Result<Reply, NoMemory>
     ensures stepped { IfOk result (λ reply. (state.new, reply) ≡ step state.old command.now) }
     ensures kept { IfErr result (λ _. state.new ≡ state.old) }
@@ -111,7 +112,8 @@ pub fn step(state: &mut State, command: &Command) -> Result<Reply, NoMemory>
     step_tables(&mut state.queues, &mut state.xids, command)
 }
 
-/// Aborts each open xid.
+/// Aborts each open xid: what it put is gone, and what it took is ready again. Prepared xids stay as they are. It takes
+/// no memory.
 pub fn settle(state: &mut State)
     ensures settled { state.new ≡ settle state.old }
 {

@@ -25,7 +25,7 @@ by_width P two four eight n h = by (eqb n 2) (eqb n 4) (eqb n 8) refl refl refl 
     by false false true x y z h = at 8 z eight
     by false false false x y z h = absurd (cc)
 
-byte_len-width_of : (n : ℕ) → is_width n ≡ true → byte_len (width_of n) ≡ n
+pub byte_len-width_of : (n : ℕ) → is_width n ≡ true → byte_len (width_of n) ≡ n
 byte_len-width_of = by_width (λ n. byte_len (width_of n) ≡ n) refl refl refl
 
 length-to_le_bytes : (n x : ℕ) → is_width n ≡ true → length (to_le_bytes (width_of n) x) ≡ n
@@ -36,7 +36,7 @@ number_back n x =
     by_width (λ n. x < 256 ^ n → from_le_bytes (width_of n) (to_le_bytes (width_of n) x) ≡ x)
     (from_le_bytes-to_le_bytes_2 x) (from_le_bytes-to_le_bytes_4 x) (from_le_bytes-to_le_bytes_8 x) n
 
-bytes_back : (n : ℕ) (bytes : List ℕ) → is_width n ≡ true → length bytes ≡ n → ((i : ℕ) → get_or bytes i 0 < 256) → to_le_bytes (width_of n) (from_le_bytes (width_of n) bytes) ≡ bytes
+pub bytes_back : (n : ℕ) (bytes : List ℕ) → is_width n ≡ true → length bytes ≡ n → ((i : ℕ) → get_or bytes i 0 < 256) → to_le_bytes (width_of n) (from_le_bytes (width_of n) bytes) ≡ bytes
 bytes_back n bytes =
     by_width (λ n. length bytes ≡ n → ((i : ℕ) → get_or bytes i 0 < 256) → to_le_bytes (width_of n) (from_le_bytes (width_of n) bytes) ≡ bytes)
     (λ l b. le_bytes_2 bytes _ l b refl) (λ l b. le_bytes_4 bytes _ l b refl) (λ l b. le_bytes_8 bytes _ l b refl) n
@@ -88,10 +88,10 @@ module _ (f : Field) (n : ℕ) (bytes : List ℕ) (width : is_width f.width ≡ 
 
 -- ---- one number got and put back
 
-small_drop : (bytes : List ℕ) (k : ℕ) → ((i : ℕ) → get_or bytes i 0 < 256) → (i : ℕ) → get_or (drop k bytes) i 0 < 256
+pub small_drop : (bytes : List ℕ) (k : ℕ) → ((i : ℕ) → get_or bytes i 0 < 256) → (i : ℕ) → get_or (drop k bytes) i 0 < 256
 small_drop bytes k small i = subst (λ (x : ℕ). x < 256) (sym (get_or-drop k bytes i 0)) (small (k + i))
 
-small_take : (k : ℕ) (bytes : List ℕ) → ((i : ℕ) → get_or bytes i 0 < 256) → (i : ℕ) → get_or (take k bytes) i 0 < 256
+pub small_take : (k : ℕ) (bytes : List ℕ) → ((i : ℕ) → get_or bytes i 0 < 256) → (i : ℕ) → get_or (take k bytes) i 0 < 256
 small_take zero bytes small i = omega arith
 small_take (suc k) [] small i = omega arith
 small_take (suc k) (x ∷ xs) small zero = small 0

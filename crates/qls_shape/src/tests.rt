@@ -57,7 +57,10 @@ fn checks_tables(rt: HostRuntime) {
     assert!(rt; Layout::checked(8, pair(3, 4)).is_none(), "an overlap");
     assert!(rt; Layout::checked(8, pair(4, 3)).is_none(), "a width of 3");
     assert!(rt; Layout::checked(8, pair(6, 4)).is_none(), "past the total");
-    assert!(rt; Layout::checked(8, pair(usize::MAX, 4)).is_none(), "far past the total");
+    assert!(rt;
+        Layout::checked(8, pair(usize::MAX, 4)).is_none(),
+        "far past the total"
+    );
     let falling = [Field { at: 4, width: 4 }, Field { at: 0, width: 4 }];
     assert!(rt; Layout::checked(8, falling).is_none(), "out of order");
 }
