@@ -4,3 +4,5 @@ pub mod HexWords
 pub mod Writing
 pub mod Drawing
 pub mod Listing
+pub mod WithinLimits
+pub mod WithinDraws

@@ -1,6 +1,7 @@
 //! Commands made from a seed.
-ghost use Rattle.std.specs.Prelude.{◌≡◌, ◌≤◌, ◌<◌, ◌+◌, ◌-◌, ◌++◌, ◌/◌, ◌^◌, ◌%◌, IfOk, Some, None, map, min, take};
+ghost use Rattle.std.specs.Prelude.{◌≡◌, ◌≤◌, ◌<◌, ◌+◌, ◌-◌, ◌++◌, ◌/◌, ◌^◌, ◌%◌, IfOk, All, take};
 ghost use Rattle.std.specs.Int.{w64};
+ghost use Rattle.qls_model.specs.Within.{IsWithin};
 ghost use Rattle.qls_command.specs.Generated.{generated, begun, drawn_from, first_commands, ends_open, queue_name as name_of_queue, xid_of_number, body_from};
 
 use qls_model::{Bytes, Command, Name, NoMemory, Seq, Xid};
@@ -12,10 +13,11 @@ const QUEUES: u64 = 4;
 
 /// The commands of a seed, exactly `count` of them. The first four make the queues q1 to q4; each later one is
 /// drawn from the number that follows the last drawn one: a put, a take of what was put, a `list`, or a step of
-/// the one open transaction.
+/// the one open transaction. Their names, xids and bodies are within their limits.
 pub fn generate(alloc: Global, seed: u64, count: u64) -> Result<Seq<Command>, NoMemory>
     requires few { count ≤ 20000 }
     ensures commands { IfOk result (λ cs. cs ≡ generated seed count) }
+    ensures within { IfOk result (All IsWithin) }
 {
     let mut commands = first(alloc, count.min(QUEUES))?;
     draw_into(&mut commands, alloc, seed, count)?;

@@ -1,5 +1,6 @@
 //! A line as a command.
-ghost use Rattle.std.specs.Prelude.{◌≡◌, ◌∷◌, [], Some, IfOk, option_copied};
+ghost use Rattle.std.specs.Prelude.{◌≡◌, ◌∷◌, [], Some, IfOk, IfSome, option_copied};
+ghost use Rattle.qls_model.specs.Within.{IsWithin};
 ghost use Rattle.qls_command.specs.Lines.{words, words_behind, command_of_words, command_of, parsed, put_words, take_words};
 
 use crate::word::{body, message_number, pool, queue_name, xid};
@@ -17,11 +18,13 @@ pub enum Parsed {
 }
 
 /// The command that a line is, the line without its LF. `Bad` exactly where the line isn't of the grammar, a
-/// limit of a name, number, xid, body or pool is passed, or the line has more than 2,100,000 bytes.
+/// limit of a name, number, xid, body or pool is passed, or the line has more than 2,100,000 bytes. So the name, xid,
+/// body and pool of a good command are within their limits.
 ///
 /// A body is decoded once, into the bytes that the command keeps; no other memory is taken.
 pub fn parse_line(alloc: Global, line: &[u8]) -> Result<Parsed, NoMemory>
     ensures read { IfOk result (λ p. parsed p ≡ command_of line.now) }
+    ensures within { IfOk result (λ p. IfSome (parsed p) IsWithin) }
 {
     if line.len() > LINE_LIMIT {
         return Ok(Parsed::Bad);
