@@ -14,6 +14,7 @@ const QUEUES: u64 = 4;
 /// The commands of a seed, exactly `count` of them. The first four make the queues q1 to q4; each later one is
 /// drawn from the number that follows the last drawn one: a put, a take of what was put, a `list`, or a step of
 /// the one open transaction. Their names, xids and bodies are within their limits.
+/// `NoMemory` comes where the memory of the list or of a body was refused.
 pub fn generate(alloc: Global, seed: u64, count: u64) -> Result<Seq<Command>, NoMemory>
     requires few { count ≤ 20000 }
     ensures commands { IfOk result (λ cs. cs ≡ generated seed count) }

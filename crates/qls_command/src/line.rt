@@ -13,7 +13,9 @@ const LINE_LIMIT: usize = 2_100_000;
 /// What a line is: a command, or nothing of the grammar.
 #[derive(Drop)]
 pub enum Parsed {
+    /// The command that the line asks.
     Good(Command),
+    /// No command: it is answered `refused line`.
     Bad,
 }
 
@@ -21,7 +23,8 @@ pub enum Parsed {
 /// limit of a name, number, xid, body or pool is passed, or the line has more than 2,100,000 bytes. So the name, xid,
 /// body and pool of a good command are within their limits.
 ///
-/// A body is decoded once, into the bytes that the command keeps; no other memory is taken.
+/// A body is decoded once, into the bytes that the command keeps; no other memory is taken. `NoMemory` comes only where
+/// that was refused.
 pub fn parse_line(alloc: Global, line: &[u8]) -> Result<Parsed, NoMemory>
     ensures read { IfOk result (λ p. parsed p ≡ command_of line.now) }
     ensures within { IfOk result (λ p. IfSome (parsed p) IsWithin) }

@@ -6,7 +6,8 @@ use crate::pieces::{put, put_count, put_messages, put_xids};
 use qls_model::{Bytes, NoMemory, Refusal, Reply};
 use std::alloc::Global;
 
-/// The text of a reply: its lines, each ended by an LF.
+/// The text of a reply: its lines, each ended by an LF; bodies and xids in lower-case hex, and an empty body as a dash.
+/// `NoMemory` comes where the text's memory was refused.
 pub fn reply_text(alloc: Global, reply: &Reply) -> Result<Bytes, NoMemory>
     ensures text { IfOk result (λ b. b ≡ text_of_reply reply.now) }
 {

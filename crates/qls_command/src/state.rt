@@ -9,7 +9,7 @@ use qls_model::{Bytes, NoMemory, Phase, QueueState, State, Xid};
 use std::alloc::Global;
 
 /// The text of a state: its queues by the bytes of their names, each with its messages by number, and the prepared
-/// xids in byte order. Open xids have no line.
+/// xids in byte order. Open xids have no line. `NoMemory` comes where the text's memory was refused.
 pub fn state_text(alloc: Global, state: &State) -> Result<Bytes, NoMemory>
     ensures text { IfOk result (λ b. b ≡ text_of_state state.now) }
 {
