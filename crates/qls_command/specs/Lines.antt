@@ -8,6 +8,8 @@ use Rattle.qls_model.specs.Bytes.{same}
 use Rattle.qls_model.specs.declared.machine.PoolId.{PoolId}
 use Rattle.qls_model.specs.declared.machine.Command.{Command}
 use Rattle.qls_model.specs.declared.machine.Command.TheVariants as command
+use Rattle.qls_command.specs.declared.line.Parsed.{Parsed}
+use Rattle.qls_command.specs.declared.line.Parsed.TheVariants.{Good, Bad}
 use Rattle.qls_model.specs.Limits.{is_partition, is_kib, is_queue_name}
 
 -- ---- cutting
@@ -26,6 +28,11 @@ lines (b ∷ bs) = let rest = lines bs in if b == 10 then [] ∷ rest else onto_
 abbrev pub words : List ℕ → List (List ℕ)
 words [] = [] ∷ []
 words (b ∷ bs) = let rest = words bs in if b == 32 then [] ∷ rest else onto_first b rest
+
+-- the words behind the space after a word, where there is one
+abbrev pub words_behind : Option (List ℕ) → List (List ℕ)
+words_behind None = []
+words_behind (Some rest) = words rest
 
 -- ---- words
 
@@ -106,6 +113,11 @@ command_of_words ws = None
 -- the command of a line, if it is one
 abbrev pub command_of : List ℕ → Option Command
 command_of line = if nat_le (length line) 2100000 then command_of_words (words line) else None
+
+-- what a line was found to be, as the grammar has it
+abbrev pub parsed : Parsed → Option Command
+parsed (Good c) = Some c
+parsed Bad = None
 
 -- the commands of a script; None for a line that is none
 abbrev pub commands : List ℕ → List (Option Command)

@@ -7,3 +7,4 @@ pub mod Machine
 pub mod Sound
 pub mod Ends
 pub mod Settling
+pub mod Within

@@ -1,0 +1,8 @@
+pub mod Cutting
+pub mod Numbers
+pub mod HexWords
+pub mod Writing
+pub mod Drawing
+pub mod Listing
+pub mod WithinLimits
+pub mod WithinDraws
