@@ -4,7 +4,7 @@ use Rattle.std.proofs.lemmas.List.Elements.{All-from_recursion, All-append, All-
 use Rattle.std.specs.List.{AllByRecursion}
 use Rattle.qls_model.specs.declared.machine.Command.{Command}
 use Rattle.qls_model.specs.Limits.{is_queue_name}
-use Rattle.qls_model.specs.Within.{is_xid, is_body, is_by, IsWithin}
+use Rattle.qls_command.specs.Within.{is_xid, is_body, is_by, IsWithin}
 use Rattle.qls_command.specs.Generated.{Drawn, queue_name, xid_of_number, body_from, puts_one, takes_one, ends_open, begins, lists_or_ends, drawn_command, with_next_number, drawn_from, begun, first_commands, generated}
 use Rattle.qls_command.proofs.WithinLimits.{both, three, one}
 

@@ -8,7 +8,7 @@ use Rattle.qls_model.specs.declared.machine.PoolId.{PoolId}
 use Rattle.qls_model.specs.declared.machine.Command.{Command}
 use Rattle.qls_model.specs.declared.machine.Command.TheVariants as command
 use Rattle.qls_model.specs.Limits.{is_partition, is_kib, is_queue_name}
-use Rattle.qls_model.specs.Within.{is_xid, is_body, is_home, is_by, IsWithin}
+use Rattle.qls_command.specs.Within.{is_xid, is_body, is_home, is_by, IsWithin}
 use Rattle.qls_command.specs.Lines.{◌>>=◌, where_true, decoded, number_of_word, message_number, name_of_word, xid_of_word, body_of_word, put_words, take_words, words, command_of_words, command_of}
 
 abbrev Holds : Option Command → Type 0

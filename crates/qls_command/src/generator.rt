@@ -1,7 +1,7 @@
 //! Commands made from a seed.
 ghost use Rattle.std.specs.Prelude.{◌≡◌, ◌≤◌, ◌<◌, ◌+◌, ◌-◌, ◌++◌, ◌/◌, ◌^◌, ◌%◌, IfOk, All, take};
 ghost use Rattle.std.specs.Int.{w64};
-ghost use Rattle.qls_model.specs.Within.{IsWithin};
+ghost use Rattle.qls_command.specs.Within.{IsWithin};
 ghost use Rattle.qls_command.specs.Generated.{generated, begun, drawn_from, first_commands, ends_open, queue_name as name_of_queue, xid_of_number, body_from};
 
 use qls_model::{Bytes, Command, Name, NoMemory, Seq, Xid};

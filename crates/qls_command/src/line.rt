@@ -1,6 +1,6 @@
 //! A line as a command.
 ghost use Rattle.std.specs.Prelude.{◌≡◌, ◌∷◌, [], Some, IfOk, IfSome, option_copied};
-ghost use Rattle.qls_model.specs.Within.{IsWithin};
+ghost use Rattle.qls_command.specs.Within.{IsWithin};
 ghost use Rattle.qls_command.specs.Lines.{words, words_behind, command_of_words, command_of, parsed, put_words, take_words};
 
 use crate::word::{body, message_number, pool, queue_name, xid};

@@ -7,4 +7,3 @@ pub mod Machine
 pub mod Sound
 pub mod Ends
 pub mod Settling
-pub mod Within

@@ -1,5 +1,5 @@
 use Rattle.std.proofs.Common.{◌≡◌, ◌++◌, ◌-◌, ap, take, ◌∙◌, List, ℕ, All, subst, sym}
-use Rattle.qls_model.specs.Within.{IsWithin}
+use Rattle.qls_command.specs.Within.{IsWithin}
 use Rattle.qls_model.specs.declared.machine.Command.{Command}
 use Rattle.qls_command.specs.Generated.{begun, drawn_from, first_commands, generated}
 use Rattle.qls_command.proofs.Drawing.{generated-whole, length-drawn_from}

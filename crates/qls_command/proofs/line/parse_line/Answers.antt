@@ -1,5 +1,5 @@
 use Rattle.std.proofs.Common.{◌≡◌, Option, Some, IfSome, subst, sym, ◌∙◌}
-use Rattle.qls_model.specs.Within.{IsWithin}
+use Rattle.qls_command.specs.Within.{IsWithin}
 use Rattle.qls_model.specs.declared.machine.Command.{Command}
 use Rattle.qls_command.specs.Lines.{words, command_of_words}
 use Rattle.qls_command.proofs.WithinLimits.{holds_words}
