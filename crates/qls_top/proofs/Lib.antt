@@ -1,0 +1,11 @@
+pub mod CutLines
+pub mod Chains
+pub mod NewFile
+pub mod Tables
+pub mod Blocks
+pub mod OneReading
+pub mod Fitting
+pub mod Putting
+pub mod Machine
+pub mod SessionSteps
+pub mod Lines

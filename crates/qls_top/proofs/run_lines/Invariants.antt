@@ -1,0 +1,22 @@
+use Rattle.std.proofs.Common.{◌≡◌, ◌≤◌, ◌+◌, true, Ok, IfSome, [], Option}
+use Rattle.qls_site.specs.Content.{Tells}
+use Rattle.qls_top.specs.Cutting.{Counted, measured, script_limit}
+use Rattle.qls_top.specs.Moments.{Arrives, Quietly}
+use Rattle.qls_top.specs.Run.{UnderWay}
+use Rattle.qls_top.specs.Sessions.{FitsSession}
+use Rattle.qls_top.proofs.run_lines.Given as goal
+
+abbrev pub invariant-loop-line : goal.invariant-loop-line
+invariant-loop-line g l = record {
+  home : l.session.home ≡ l.fn.session.home;
+  fits : IfSome (g.S.Site.told l.site) (FitsSession l.session);
+  went : Tells (Arrives Quietly) (g.S.Site.told l.fn.site) (g.S.Site.told l.site);
+  under_way : UnderWay l.fn.session.home l.fn.session.state (g.S.Site.told l.fn.site) (g.S.Site.told l.site) (g.R.Source.left l.fn.source) l.script.waiting (g.R.Source.left l.source) l.session;
+  counted : Counted script_limit (g.R.Source.left l.fn.source) l.script.budget (g.R.Source.left l.source) (Ok true);
+  sources : g.R.Source.faults l.fn.source ≤ g.R.Source.faults l.source;
+  sites : g.S.Site.faults l.fn.site ≤ g.S.Site.faults l.site;
+  draws : g.N.Serials.faults l.fn.serials ≤ g.N.Serials.faults l.serials;
+}
+
+abbrev pub decreases-loop-line : goal.decreases-loop-line
+decreases-loop-line g l = measured l.script

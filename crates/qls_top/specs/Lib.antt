@@ -1,0 +1,11 @@
+pub mod Status
+pub mod Words
+pub mod Cutting
+pub mod Answers
+pub mod Stored
+pub mod Moments
+pub mod Table
+pub mod Causes
+pub mod Steps
+pub mod Sessions
+pub mod Run

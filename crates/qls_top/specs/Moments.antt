@@ -1,0 +1,35 @@
+-- The moments that a call adds, each with the one before it.
+use Rattle.std.specs.Prelude.{◌≡◌, ◌⊎◌, List, [], ◌∷◌, ◌++◌, Result, Ok, Err}
+use Rattle.qls_site.specs.Disk.{IsQuiet}
+use Rattle.qls_site.specs.Content.{Moment, Content}
+
+-- R from each moment to the next
+abbrev pub Chain : (Moment → Moment → Type 0) → Moment → List Moment → Type 0
+Chain R m [] = Unit {0}
+Chain R m (n ∷ ns) = R m n × Chain R n ns
+
+abbrev pub last_moment : Moment → List Moment → Moment
+last_moment m [] = m
+last_moment m (n ∷ ns) = last_moment n ns
+
+-- the call added moments, each by R from the one before
+pub record Passes (R : Moment → Moment → Type 0) (old new : Content) : Type 0 where
+  pub since : List Moment
+  pub moments : new.moments ≡ old.moments ++ since
+  pub chain : Chain R old.now since
+
+-- and the last of them is the one that is now
+pub record Arrives (R : Moment → Moment → Type 0) (old new : Content) : Type 0 where
+  pub since : List Moment
+  pub moments : new.moments ≡ old.moments ++ since
+  pub chain : Chain R old.now since
+  pub last : new.now ≡ last_moment old.now since
+
+-- by the answer: at Ok the one, for what was answered, at an error the other
+abbrev pub EndsIn : {X E C : Type 0} → (X → C → C → Type 0) → (C → C → Type 0) → Result X E → C → C → Type 0
+EndsIn done failed (Ok x) old new = done x old new
+EndsIn done failed (Err e) old new = failed old new
+
+-- where bytes were answered nothing is pending
+abbrev pub Quietly : Moment → Moment → Type 0
+Quietly m n = (n.answered ≡ m.answered) ⊎ IsQuiet n.disk

@@ -1,0 +1,54 @@
+-- The statuses of a run that ended early.
+use Rattle.std.specs.Prelude.{◌≡◌, ℕ, Bool, true, false}
+use Rattle.qls_site.specs.declared.site.SiteError.{SiteError}
+use Rattle.qls_site.specs.declared.site.SiteError.TheVariants as site
+use Rattle.qls_top.specs.declared.fault.Fault.{Fault}
+use Rattle.qls_top.specs.declared.fault.Fault.TheVariants.{Source, Site, Memory, TooLong, Draw, NotEmpty}
+
+abbrev pub status_of : Fault → ℕ
+status_of Source = 4
+status_of Site = 5
+status_of Memory = 6
+status_of TooLong = 7
+status_of Draw = 8
+status_of NotEmpty = 10
+
+abbrev pub fault_of_site : SiteError → Fault
+fault_of_site site.Failed = Site
+fault_of_site site.Memory = Memory
+
+-- the faults of a call on the site
+abbrev pub is_of_site : Fault → Bool
+is_of_site Site = true
+is_of_site Memory = true
+is_of_site Source = false
+is_of_site TooLong = false
+is_of_site Draw = false
+is_of_site NotEmpty = false
+
+abbrev pub IsOfSite : Fault → Type 0
+IsOfSite f = is_of_site f ≡ true
+
+-- the faults of a line that is run
+abbrev pub is_of_line : Fault → Bool
+is_of_line Site = true
+is_of_line Memory = true
+is_of_line Draw = true
+is_of_line Source = false
+is_of_line TooLong = false
+is_of_line NotEmpty = false
+
+abbrev pub IsOfLine : Fault → Type 0
+IsOfLine f = is_of_line f ≡ true
+
+-- the faults of lines that are read and run
+abbrev pub is_of_lines : Fault → Bool
+is_of_lines Site = true
+is_of_lines Memory = true
+is_of_lines Draw = true
+is_of_lines Source = true
+is_of_lines TooLong = true
+is_of_lines NotEmpty = false
+
+abbrev pub IsOfLines : Fault → Type 0
+IsOfLines f = is_of_lines f ≡ true

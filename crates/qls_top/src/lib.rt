@@ -1,0 +1,127 @@
+//! The top call: a script of commands, run on a site.
+#![tactic(auto)]
+
+mod answer;
+mod block;
+mod fault;
+mod files;
+mod script;
+mod session;
+mod words;
+
+pub use answer::{Answer, answer_text};
+pub use fault::Fault;
+pub use words::{Job, parse_words, status_line};
+
+use qls_model::PoolId;
+use qls_site::{Serials, Site, Source};
+use script::Script;
+use session::Session;
+use std::alloc::Global;
+
+ghost use Rattle.std.specs.Prelude.{◌≡◌, ◌↔◌, ◌≤◌, map, None, Ok, Err, IfOk, IfErr, IfSome, true, ◌==◌};
+ghost use Rattle.std.specs.String.{string_bytes};
+ghost use Rattle.qls_model.specs.Limits.{is_kib, is_partition};
+ghost use Rattle.qls_site.specs.Content.{Tells, Rose};
+ghost use Rattle.qls_top.specs.Words.{job_of};
+ghost use Rattle.qls_top.specs.Moments.{Passes, Quietly};
+ghost use Rattle.qls_top.specs.Run.{ForJob, RunsToEnd, ReadsBytes, Starts, is_too_long, is_status, StartsWith, HadFile, EndsScript};
+ghost use Rattle.qls_top.specs.Sessions.{FitsSession};
+ghost use Rattle.qls_top.specs.Status.{IsOfLines};
+
+/// Runs the job that the words ask for, and answers its status.
+///
+/// For `DIR run PART KIB` the site has no file at the start. Each line of the source is run and answered, before the next
+/// one is read, where nothing fails.
+///
+/// | status | comes |
+/// |---|---|
+/// | 0 | the source was read to its end, and every line is answered |
+/// | 2 | exactly where the words ask for no job; no call was made |
+/// | 4 | only where the source's count of faults rose |
+/// | 5 | only where the site's count of faults rose |
+/// | 6 | memory was wanting |
+/// | 7 | exactly where byte 67,108,865 of the script was read |
+/// | 8 | only where the serials' count of faults rose |
+/// | 10 | the site had a file; nothing changed |
+pub fn run<R: Source, S: Site, N: Serials>(
+    alloc: Global,
+    words: &[String],
+    source: &mut R,
+    site: &mut S,
+    serials: &mut N,
+) -> u8
+    ensures usage { (result ≡ 2) ↔ (job_of (map string_bytes words.now) ≡ None) }
+    ensures status { is_status result ≡ true }
+    ensures untouched_site { result ≡ 2 → S.told site.new ≡ S.told site.old }
+    ensures untouched_source { result ≡ 2 → R.left source.new ≡ R.left source.old }
+    ensures untouched_serials { result ≡ 2 → N.drawn serials.new ≡ N.drawn serials.old }
+    ensures done { result ≡ 0 → ForJob (job_of (map string_bytes words.now)) (λ home. RunsToEnd home (S.told site.old) (S.told site.new) (R.left source.old) (R.left source.new)) }
+    ensures quiet { Tells (Passes Quietly) (S.told site.old) (S.told site.new) }
+    ensures source { result ≡ 4 → Rose (R.faults source.old) (R.faults source.new) }
+    ensures site { result ≡ 5 → Rose (S.faults site.old) (S.faults site.new) }
+    ensures serials { result ≡ 8 → Rose (N.faults serials.old) (N.faults serials.new) }
+    ensures too_long { ReadsBytes (result == 7) (R.left source.old) (R.left source.new) }
+    ensures not_empty { StartsWith (S.told site.old) (S.told site.new) result }
+    ensures had_file { result ≡ 10 → HadFile (S.told site.old) }
+{
+    match parse_words(words) {
+        None => 2,
+        Some(Job::Run { home }) => match run_script(alloc, home, source, site, serials) {
+            Ok(()) => 0,
+            Err(fault) => fault.status(),
+        },
+    }
+}
+
+/// Runs the script of the source, line by line, on a site without files.
+fn run_script<R: Source, S: Site, N: Serials>(
+    alloc: Global,
+    home: PoolId,
+    source: &mut R,
+    site: &mut S,
+    serials: &mut N,
+) -> Result<(), Fault>
+    requires pool { (is_partition home.part ≡ true) × (is_kib home.kib ≡ true) }
+    ensures done { IfOk result (λ _. RunsToEnd home (S.told site.old) (S.told site.new) (R.left source.old) (R.left source.new)) }
+    ensures quiet { Tells (Passes Quietly) (S.told site.old) (S.told site.new) }
+    ensures source { result ≡ Err Fault.Source → Rose (R.faults source.old) (R.faults source.new) }
+    ensures site { result ≡ Err Fault.Site → Rose (S.faults site.old) (S.faults site.new) }
+    ensures serials { result ≡ Err Fault.Draw → Rose (N.faults serials.old) (N.faults serials.new) }
+    ensures too_long { ReadsBytes (is_too_long result) (R.left source.old) (R.left source.new) }
+    ensures starts { Starts (S.told site.old) (S.told site.new) result }
+{
+    let files = site.list(alloc)?;
+    if files.as_slice().len() > 0 {
+        return Err(Fault::NotEmpty);
+    }
+    let mut session = Session::new(alloc, home);
+    run_lines(alloc, &mut session, source, site, serials)
+}
+
+/// Runs the lines of the source in a session that fits the site.
+fn run_lines<R: Source, S: Site, N: Serials>(
+    alloc: Global,
+    session: &mut Session,
+    source: &mut R,
+    site: &mut S,
+    serials: &mut N,
+) -> Result<(), Fault>
+    requires pool { (is_partition session.old.home.part ≡ true) × (is_kib session.old.home.kib ≡ true) }
+    requires fits { IfSome (S.told site.old) (FitsSession session.old) }
+    ensures done { IfOk result (λ _. EndsScript session.old (S.told site.old) (S.told site.new) (R.left source.old) (R.left source.new)) }
+    ensures quiet { Tells (Passes Quietly) (S.told site.old) (S.told site.new) }
+    ensures source { result ≡ Err Fault.Source → Rose (R.faults source.old) (R.faults source.new) }
+    ensures site { result ≡ Err Fault.Site → Rose (S.faults site.old) (S.faults site.new) }
+    ensures serials { result ≡ Err Fault.Draw → Rose (N.faults serials.old) (N.faults serials.new) }
+    ensures sites { S.faults site.old ≤ S.faults site.new }
+    ensures too_long { ReadsBytes (is_too_long result) (R.left source.old) (R.left source.new) }
+    ensures only { IfErr result IsOfLines }
+{
+    let mut script = Script::new(alloc)?;
+    let mut line = Vec::new(alloc);
+    while script.next_line(source, &mut line)? {
+        session.run_line(&line, site, serials)?;
+    }
+    Ok(())
+}
