@@ -1,0 +1,286 @@
+#!/usr/bin/env bash
+# Runs the built program `qls` on real folders: what it prints, its exit status, and what it leaves.
+# Bytes that are expected are made here from the format's own description, never by the program.
+# It works in a temporary folder of its own, ends by itself, and says what it skips and why.
+set -u
+
+top=$(cd "$(dirname "${BASH_SOURCE[0]}")/.." && pwd)
+qls=$top/qls
+room=$(mktemp -d) || exit 1
+trap 'chmod -R u+rwx "$room" 2>/dev/null; umount "$room/small" 2>/dev/null; rm -rf "$room"' EXIT
+cd "$room" || exit 1
+
+passed=0
+failed=0
+skipped=0
+USAGE='usage: qls DIR run PART KIB'
+
+pass() { passed=$((passed + 1)); }
+fail() { failed=$((failed + 1)); printf 'FAILED  %s: %s\n' "$scenario" "$1"; }
+skip() { skipped=$((skipped + 1)); printf 'skipped %s: %s\n' "$scenario" "$1"; }
+
+# is WHAT GOT WANTED
+is() {
+    if [ "$2" = "$3" ]; then pass; else fail "$1 is '${2:0:160}' and not '${3:0:160}'"; fi
+}
+
+# Runs the program with these words on standard input as given; leaves `status`, `out` and `err`.
+run() {
+    timeout 60 "$qls" "$@" >out.txt 2>err.txt
+    status=$?
+    out=$(cat out.txt)
+    err=$(cat err.txt)
+}
+
+# A line for each file and folder: kind, path, and a checksum of each file's bytes.
+tree() {
+    find "$1" -printf '%y %p\n' 2>/dev/null | sort
+    find "$1" -type f -exec sha256sum {} + 2>/dev/null | sort
+}
+
+# ---- the format, as far as a queue with one message needs it, in hexadecimal
+
+# N times a byte
+repeat() { printf "%0.s$1" $(seq "$2"); }
+
+# N in W bytes, the least first
+little() {
+    local number=$1 at
+    for ((at = 0; at < $2; at++)); do
+        printf '%02x' $((number & 255))
+        number=$((number >> 8))
+    done
+}
+
+# Adler-32 of bytes in hexadecimal, the least byte first
+adler() {
+    local low=1 high=0 at
+    for ((at = 0; at < ${#1}; at += 2)); do
+        low=$(((low + 16#${1:at:2}) % 65521))
+        high=$(((high + low) % 65521))
+    done
+    little $((high * 65536 + low)) 4
+}
+
+# The header of a queue's first file: queue a, partition 1, 4 KiB; serial in hexadecimal
+header() {
+    local start
+    start=514c536602000000$1$(little 0 8)$(little 1 4)$(little 4 4)
+    start+=$(little 4096 8)$(little 1 8)$(little 1 8)$(little 1 2)$(little 1 2)61
+    printf '%s%s%s' "$start" "$(adler "$start")" "$(repeat 00 $((4096 - 65)))"
+}
+
+# Message 1 with the body 6869, padded to 128 bytes
+message() {
+    local record
+    record=514c536502000000$1$(little 1 8)$(little 0 8)$(little 2 8)6869
+    printf '%saeb3ac9a%s%s%s%s' "$record" "$(adler "$record")" "$1" "$(little 1 8)" "$(repeat ff 62)"
+}
+
+# A filler after message 1
+filler() { printf '514c537802000000%s%s%s' "$1" "$(little 1 8)" "$(repeat ff 104)"; }
+
+# The file of queue a with that message
+whole_file() {
+    local filler at
+    header "$1"
+    message "$1"
+    filler=$(filler "$1")
+    for ((at = 0; at < 31; at++)); do printf '%s' "$filler"; done
+}
+
+bytes_of() { od -An -v -tx1 "$1" | tr -d ' \n'; }
+
+FIRST=0000000000000000001.qls
+UNFINISHED=0000000000000000001.new
+printf 'queue a\nput a 6869\n' >script.txt
+
+scenario='the vectors'
+seven=0700000000000000
+is 'the checksum of the header with serial 7' "$(header $seven | cut -c123-130)" da017054
+is 'the checksum of the message with serial 7' "$(message $seven | cut -c93-100)" 33029c38
+
+scenario='a folder that is missing'
+run a/b/store run 1 4 <script.txt
+is status "$status" 0
+is replies "$out" $'ok\nok 1'
+is 'standard error' "$err" ''
+is 'the files' "$(cd a/b/store && find . -type f)" "./inuse/$FIRST"
+serial=$(bytes_of "a/b/store/inuse/$FIRST" | cut -c17-32)
+is 'the file' "$(bytes_of "a/b/store/inuse/$FIRST")" "$(whole_file "$serial")"
+
+scenario='a folder that is empty, and what a cut left in it'
+mkdir -p store/empty/1/4 store/empty/2/8 store/inuse
+printf 'left' | tee "store/empty/1/4/$UNFINISHED" "store/empty/2/8/$UNFINISHED" >"store/inuse/$UNFINISHED"
+run store run 1 4 <script.txt
+is status "$status" 0
+is replies "$out" $'ok\nok 1'
+is 'the whole files' "$(cd store && find . -name '*.qls')" "./inuse/$FIRST"
+serial=$(bytes_of "store/inuse/$FIRST" | cut -c17-32)
+is 'the file' "$(bytes_of "store/inuse/$FIRST")" "$(whole_file "$serial")"
+is 'what is passed over' "$(cd store && find . -name '*.new' | sort)" "./empty/2/8/$UNFINISHED
+./inuse/$UNFINISHED"
+
+scenario='the empty script'
+run none run 1 4 </dev/null
+is status "$status" 0
+is replies "$out" ''
+is 'what is made' "$(tree none)" ''
+
+scenario='a second process'
+mkfifo lines.fifo
+timeout 60 "$qls" shared run 1 4 <lines.fifo >first.txt 2>&1 &
+first=$!
+exec 7>lines.fifo
+printf 'queue a\n' >&7
+for ((wait = 0; wait < 300; wait++)); do
+    [ -s first.txt ] && break
+    sleep 0.1
+done
+before=$(tree shared)
+run shared run 1 4 <script.txt
+is status "$status" 5
+is replies "$out" ''
+is 'standard error' "$err" 'site fault'
+is 'what lies there' "$(tree shared)" "$before"
+printf 'put a 6869\n' >&7
+exec 7>&-
+wait "$first"
+is 'status of the first' "$?" 0
+is 'replies of the first' "$(cat first.txt)" $'ok\nok 1'
+
+scenario='a folder without write permission'
+if [ "$(id -u)" -eq 0 ]; then
+    skip 'the tester is root, whom no permission stops'
+else
+    mkdir locked && chmod 555 locked
+    before=$(tree locked)
+    run locked run 1 4 <script.txt
+    is status "$status" 5
+    is replies "$out" ''
+    is 'standard error' "$err" 'site fault'
+    is 'what lies there' "$(tree locked)" "$before"
+fi
+
+scenario='a full disk'
+mkdir small
+if mount -t tmpfs -o size=1m none small 2>/dev/null; then
+    run small/store run 1 2048 <script.txt
+else
+    (
+        trap '' XFSZ
+        ulimit -f 1024
+        timeout 60 "$qls" small/store run 1 2048 <script.txt >out.txt 2>err.txt
+    )
+    status=$?
+    out=$(cat out.txt)
+    err=$(cat err.txt)
+fi
+is status "$status" 5
+is replies "$out" ''
+is 'standard error' "$err" 'site fault'
+is 'the files' "$(find small -type f)" ''
+umount small 2>/dev/null
+
+scenario='a script that is a folder'
+mkdir folder
+run unread run 1 4 <folder
+is status "$status" 4
+is replies "$out" ''
+is 'standard error' "$err" 'source fault'
+is 'what is made' "$(tree unread)" ''
+
+scenario='standard output that is closed'
+mkdir -p closed/inuse
+timeout 60 "$qls" closed run 1 4 <script.txt >&- 2>err.txt
+is status "$?" 5
+is 'standard error' "$(cat err.txt)" 'site fault'
+is 'the files' "$(find closed -type f)" ''
+
+scenario='a pipe that nobody reads'
+{
+    sleep 0.5
+    cat script.txt
+} | timeout 60 "$qls" piped run 1 4 2>err.txt | true
+is status "${PIPESTATUS[1]}" 5
+is 'standard error' "$(cat err.txt)" 'site fault'
+serial=$(bytes_of "piped/inuse/$FIRST" | cut -c17-32)
+is 'the header, which no reply may touch' "$(bytes_of "piped/inuse/$FIRST" | cut -c1-8192)" "$(header "$serial")"
+
+scenario='a full disk behind standard output'
+if [ -c /dev/full ]; then
+    timeout 60 "$qls" unheard run 1 4 <script.txt >/dev/full 2>err.txt
+    is status "$?" 5
+    is 'standard error' "$(cat err.txt)" 'site fault'
+else
+    skip 'there is no /dev/full'
+fi
+
+# faulty WHAT STORE: a store that must be a site fault and stay as it is
+faulty() {
+    scenario=$1
+    local before
+    before=$(tree "$2")
+    run "$2" run 1 4 <script.txt
+    is status "$status" 5
+    is replies "$out" ''
+    is 'standard error' "$err" 'site fault'
+    is 'what lies there' "$(tree "$2")" "$before"
+}
+
+printf 'no folder' >file
+faulty 'a file in the place of the store' file
+mkdir -p f1/inuse/$FIRST
+faulty 'a folder in the place of a file' f1
+mkdir -p f2/inuse && truncate -s 8192 elsewhere && ln -s ../../elsewhere f2/inuse/$FIRST
+faulty 'a link in the place of a file' f2
+mkdir -p f3/inuse && truncate -s 8192 f3/inuse/$FIRST && ln f3/inuse/$FIRST f3/other
+faulty 'a file with a second name' f3
+mkdir -p f4/inuse && : >f4/inuse/$'\xff.qls'
+faulty 'a name that is no text' f4
+mkdir -p f5/elsewhere && ln -s elsewhere f5/inuse
+faulty 'a link in the place of a folder' f5
+mkdir -p f6/empty && : >f6/empty/1
+faulty 'a file in the place of a folder' f6
+mkdir -p f7/inuse f7/empty/1/4 && truncate -s 8192 f7/inuse/$FIRST f7/empty/1/4/$FIRST
+faulty 'an id in two places' f7
+mkdir -p f8/inuse && mkfifo f8/inuse/$FIRST
+faulty 'a pipe in the place of a file' f8
+scenario='a file of another owner'
+if [ "$(id -u)" -eq 0 ]; then
+    mkdir -p f9/inuse && truncate -s 8192 f9/inuse/$FIRST && chown 65534 f9/inuse/$FIRST
+    faulty "$scenario" f9
+else
+    skip 'the tester is not root, and can give no file away'
+fi
+
+# Words that aren't of the table: the status, the usage line, and no call on anything.
+usage() {
+    scenario="the words '$*'"
+    run "$@" <folder
+    is status "$status" 2
+    is replies "$out" ''
+    is 'standard error' "$err" "$USAGE"
+}
+usage
+usage d
+usage d walk
+usage d run 1
+usage d run 1 4 5
+usage '' run 1 4
+usage d run 0 4
+usage d run 1000 4
+usage d run 01 4
+usage d run 1 0
+usage d run 1 6
+usage d run 1 04
+usage d run 1 65540
+usage d run x 4
+usage d run 1 -4
+usage d run 1 18446744073709551620
+usage $'\xff' run 1 4
+scenario='words that are refused'
+is 'what is made' "$(tree d)" ''
+
+printf '%d passed, %d failed, %d skipped\n' "$passed" "$failed" "$skipped"
+[ "$failed" -eq 0 ]
