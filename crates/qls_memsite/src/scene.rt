@@ -1,4 +1,10 @@
 // What a site was at an earlier moment, made again from the log of its calls.
+ghost use Rattle.std.specs.Prelude.{◌≡◌, ◌+◌, ◌<◌, ◌++◌, take, drop, length, map, slice_get, Some, OnOk, IfOk, [], ◌∷◌};
+ghost use Rattle.qls_site.specs.Disk.{all_written, changed, create_at, at_rest};
+ghost use Rattle.qls_site.specs.Content.{Content};
+ghost use Rattle.qls_memsite.specs.Log.{act_of, is_in_doubt, content_after, begun};
+ghost use Rattle.qls_memsite.specs.Scenes.{write_of, state_of, disk_of, moment_of, changed_by, place_in};
+
 use crate::call::Call;
 use qls_model::Bytes;
 use qls_site::{ImageFile, Place};
@@ -26,12 +32,6 @@ pub struct Scene {
     pub files: Vec<SceneFile>,
     pub answered: Vec<u8>,
 }
-
-ghost use Rattle.std.specs.Prelude.{◌≡◌, ◌+◌, ◌<◌, ◌++◌, take, drop, length, map, slice_get, Some, OnOk, IfOk, [], ◌∷◌};
-ghost use Rattle.qls_site.specs.Disk.{all_written, changed, create_at, at_rest};
-ghost use Rattle.qls_site.specs.Content.{Content};
-ghost use Rattle.qls_memsite.specs.Log.{act_of, is_in_doubt, content_after, begun};
-ghost use Rattle.qls_memsite.specs.Scenes.{write_of, state_of, disk_of, moment_of, changed_by, place_in};
 
 /// Puts `new` in place of the `count` bytes at offset `at`; what lies past the end counts as no bytes.
 pub fn replace(
