@@ -21,3 +21,9 @@ error_of Memory = Site.Memory
 abbrev pub answer_of : {X : Type 0} → Result X Trouble → Result X SiteError
 answer_of (Ok x) = Ok x
 answer_of (Err t) = Err (error_of t)
+
+-- each call is counted, but for one that wants memory and so did nothing
+abbrev pub tally_after : {X : Type 0} → Result X Trouble → ℕ → ℕ
+tally_after (Ok x) count = one_more count
+tally_after (Err Host) count = one_more count
+tally_after (Err Memory) count = count

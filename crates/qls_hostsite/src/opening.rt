@@ -10,9 +10,12 @@ use std::io::ErrorKind;
 use std::os::unix::fs::MetadataExt;
 use std::rt::Runtime;
 
-/// Whether it is a file of this process's user that has no other name.
-fn is_own_file(metadata: &Metadata) -> bool {
-    metadata.is_file() && metadata.nlink() <= 1 && metadata.uid() == libc::geteuid()
+/// A folder of the system's that belongs to the user of the process that asks.
+const OWN_PROCESS: &str = "/proc/self";
+
+/// Whether it is a file of the user that has no other name.
+fn is_own_file(metadata: &Metadata, user: u32) -> bool {
+    metadata.is_file() && metadata.nlink() <= 1 && metadata.uid() == user
 }
 
 impl<H: Runtime> Store<H>
@@ -33,6 +36,7 @@ where
             Err(error) => return Err(Trouble::from(error)),
         }
         self.take_lock()?;
+        self.user = fs::metadata(&self.rt, OWN_PROCESS)?.uid();
         self.take_folder(Place::InUse)?;
         self.take_pools()?;
         self.sync_folder(Folder::Store)?;
@@ -73,7 +77,7 @@ where
             return Ok(());
         };
         let metadata = entry.metadata()?;
-        if !is_own_file(&metadata) || self.files.contains_key(&id) {
+        if !is_own_file(&metadata, self.user) || self.files.contains_key(&id) {
             return Err(Trouble::Host);
         }
         fs::open(&self.rt, entry.path())?.sync_all()?;

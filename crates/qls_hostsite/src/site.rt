@@ -3,7 +3,7 @@ ghost use Rattle.std.specs.Prelude.{◌≡◌, None, IfOk};
 
 use crate::lock::{Locking, StoreFile};
 use crate::store::Store;
-use crate::trouble::{Trouble, counted};
+use crate::trouble::{Trouble, counted, tally};
 use qls_model::{NoMemory, Seq};
 use qls_site::{FileAt, Place, Site, SiteError};
 use std::alloc::Global;
@@ -101,8 +101,8 @@ where
 
     /// Fails where the file isn't known, or has fewer bytes.
     fn read(&mut self, id: u64, at: u64, into: &mut [u8]) -> Result<(), SiteError> {
-        self.reads = self.reads.saturating_add(1);
         let outcome = self.store.read(id, at, into);
+        tally(&mut self.reads, &outcome);
         counted(&mut self.faults, outcome)
     }
 
@@ -114,8 +114,8 @@ where
 
     /// Syncs the file's data.
     fn sync(&mut self, id: u64) -> Result<(), SiteError> {
-        self.syncs = self.syncs.saturating_add(1);
         let outcome = self.store.sync(id);
+        tally(&mut self.syncs, &outcome);
         counted(&mut self.faults, outcome)
     }
 

@@ -67,6 +67,8 @@ pub struct Store<H: Runtime> {
     /// The open folder, which holds the lock; None while it is missing.
     pub(crate) lock: Option<H::File>,
     pub(crate) files: BTreeMap<u64, Known>,
+    /// The user that the files belong to; 0 until the first call asks.
+    pub(crate) user: u32,
     standing: Standing,
     handles: Handles<H>,
     /// Folders of files that this process has made or found, and whose names are durable.
@@ -93,6 +95,7 @@ where
             target: PathText::new(alloc, folder)?,
             lock: None,
             files: BTreeMap::new(alloc),
+            user: 0,
             standing: Standing::Untouched,
             handles: Handles::new(alloc)?,
             in_use_is_ready: false,

@@ -1,8 +1,8 @@
 //! Failures of the host, before they are counted.
-ghost use Rattle.std.specs.Prelude.{◌≡◌};
+ghost use Rattle.std.specs.Prelude.{◌≡◌, None};
 ghost use Rattle.qls_hostsite.specs.declared.trouble.Trouble.TheVariants.{Host, Memory};
-ghost use Rattle.qls_hostsite.specs.Faults.{count_after, error_of, answer_of};
-ghost use Rattle.qls_site.specs.Content.{Causes};
+ghost use Rattle.qls_hostsite.specs.Faults.{count_after, tally_after, error_of, answer_of};
+ghost use Rattle.qls_site.specs.Content.{Causes, CountsOne};
 
 use qls_model::NoMemory;
 use qls_site::SiteError;
@@ -71,6 +71,18 @@ pub fn counted<T>(faults: &mut u64, outcome: Result<T, Trouble>) -> Result<T, Si
             *faults = faults.saturating_add(1);
             Err(answer_to(trouble))
         }
+    }
+}
+
+/// Counts a call, but for one that wants memory and so did nothing. The count stays at its greatest
+/// value.
+pub fn tally<T>(count: &mut u64, outcome: &Result<T, Trouble>)
+    ensures exact { count.new ≡ tally_after outcome.now count.old }
+    ensures counts { CountsOne None (answer_of outcome.now) count.old count.new }
+{
+    match outcome {
+        Err(Trouble::Memory) => {}
+        _ => *count = count.saturating_add(1),
     }
 }
 
