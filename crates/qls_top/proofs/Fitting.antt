@@ -179,8 +179,7 @@ module _ (home : PoolId) (S : MachineState) (files : List QueueFile) (c : Conten
         let own = fits.own id f e in
         let there = paired home d (entry_named own.name files) (queue_named own.name S.queues) own.entry own.there (fits.pairs own.name) in
         let k = there.2 in
-        let same_file : k.file ≡ f = some_same k.file f (file_of id d) (ap (λ n. file_of n d) (sym own.is) ∙ k.there) e in
-        (
+        let same_file : k.file ≡ f = some_same k.file f (file_of id d) (ap (λ n. file_of n d) (sym own.is) ∙ k.there) e in (
           there.0,
           ap (λ n. queue_named n S.queues) (named _ _ (queue_named-name own.name S.queues there.0 there.1)) ∙ there.1,
           (own.entry.serial, subst (λ g. HoldsQueue home there.0 own.entry.serial g) same_file (holds home d own.entry there.0 k)),

@@ -51,7 +51,12 @@ fn spell_at(block: &mut Vec<u8>, start: usize, head: &Head, serial: u64, body: &
 }
 
 /// The spelling of a message's record, and of the fillers to the block's end.
-pub(crate) fn spell_block(alloc: Global, serial: u64, number: u64, body: &[u8]) -> Result<Vec<u8>, NoMemory>
+pub(crate) fn spell_block(
+    alloc: Global,
+    serial: u64,
+    number: u64,
+    body: &[u8],
+) -> Result<Vec<u8>, NoMemory>
     requires size { count body.now ≤ 1048576 }
     ensures spelled { IfOk result (λ bytes. bytes.items ≡ block_bytes serial number body.now) }
 {

@@ -52,7 +52,13 @@ pub(crate) fn header_of_queue(home: PoolId, name: Name, serial: u64) -> FileHead
 }
 
 /// Draws a serial, and makes the file of a new queue.
-pub(crate) fn new_file<S: Site, N: Serials>(home: PoolId, name: Name, id: u64, site: &mut S, serials: &mut N) -> Result<QueueFile, Fault>
+pub(crate) fn new_file<S: Site, N: Serials>(
+    home: PoolId,
+    name: Name,
+    id: u64,
+    site: &mut S,
+    serials: &mut N,
+) -> Result<QueueFile, Fault>
     requires lacks { IfSome (S.told site.old) (LacksFile id) }
     requires pool { (is_partition home.part ≡ true) × (is_kib home.kib ≡ true) }
     requires name { IsTrue (is_queue_name name) }
@@ -91,7 +97,12 @@ pub(crate) fn make_file<S: Site>(site: &mut S, id: u64, header: &FileHeader) -> 
 }
 
 /// Writes a block and makes it stable.
-pub(crate) fn write_block<S: Site>(site: &mut S, id: u64, at: u64, block: &[u8]) -> Result<(), Fault>
+pub(crate) fn write_block<S: Site>(
+    site: &mut S,
+    id: u64,
+    at: u64,
+    block: &[u8],
+) -> Result<(), Fault>
     requires range { IfSome (S.told site.old) (HasRange id at (length block.now)) }
     requires sectors { (at % 512 ≡ 0) × (length block.now % 512 ≡ 0) × (0 < length block.now) }
     ensures told { Tells (EndsIn (λ _. WritesBlock id at block.now) (Passes Quietly) result) (S.told site.old) (S.told site.new) }

@@ -9,16 +9,6 @@ mod script;
 mod session;
 mod words;
 
-pub use answer::{Answer, answer_text};
-pub use fault::Fault;
-pub use words::{Job, parse_words, status_line};
-
-use qls_model::PoolId;
-use qls_site::{Serials, Site, Source};
-use script::Script;
-use session::Session;
-use std::alloc::Global;
-
 ghost use Rattle.std.specs.Prelude.{◌≡◌, ◌↔◌, ◌≤◌, map, None, Ok, Err, IfOk, IfErr, IfSome, true, ◌==◌};
 ghost use Rattle.std.specs.String.{string_bytes};
 ghost use Rattle.qls_model.specs.Limits.{is_kib, is_partition};
@@ -28,6 +18,15 @@ ghost use Rattle.qls_top.specs.Moments.{Passes, Quietly};
 ghost use Rattle.qls_top.specs.Run.{ForJob, RunsToEnd, ReadsBytes, Starts, is_too_long, is_status, StartsWith, HadFile, EndsScript};
 ghost use Rattle.qls_top.specs.Sessions.{FitsSession};
 ghost use Rattle.qls_top.specs.Status.{IsOfLines};
+
+pub use answer::{Answer, answer_text};
+pub use fault::Fault;
+use qls_model::PoolId;
+use qls_site::{Serials, Site, Source};
+use script::Script;
+use session::Session;
+use std::alloc::Global;
+pub use words::{Job, parse_words, status_line};
 
 /// Runs the job that the words ask for, and answers its status.
 ///

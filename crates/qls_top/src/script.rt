@@ -124,7 +124,11 @@ impl Script {
     }
 
     /// The next line of the script, without its line feed and no more of it than is kept; false at the end of the script.
-    pub(crate) fn next_line<R: Source>(&mut self, source: &mut R, line: &mut Vec<u8>) -> Result<bool, Fault>
+    pub(crate) fn next_line<R: Source>(
+        &mut self,
+        source: &mut R,
+        line: &mut Vec<u8>,
+    ) -> Result<bool, Fault>
         ensures cut { IfOk result (λ more. CutsTold self.old (R.left source.old) self.new (R.left source.new) line.new.items more) }
         ensures counted { Counted self.old.budget (R.left source.old) self.new.budget (R.left source.new) result }
         ensures nearer { IfOk result (λ more. more ≡ true → measured self.new < measured self.old) }

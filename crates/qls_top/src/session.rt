@@ -1,7 +1,7 @@
 //! A session: the machine's state, and the file of each of its queues.
 use crate::answer::{Answer, answer_text};
-use crate::fault::Fault;
 use crate::block::spell_block;
+use crate::fault::Fault;
 use crate::files::{BLOCK, QueueFile, new_file, write_block};
 use qls_command::{Parsed, parse_line};
 use qls_model::{Bytes, Command, Name, PoolId, Refusal, Reply, State, step};
@@ -91,7 +91,13 @@ impl Session {
     }
 
     /// Makes a queue with its file, where the machine takes the command.
-    fn make_queue<S: Site, N: Serials>(&mut self, name: &Name, command: &Command, site: &mut S, serials: &mut N) -> Result<Answer, Fault>
+    fn make_queue<S: Site, N: Serials>(
+        &mut self,
+        name: &Name,
+        command: &Command,
+        site: &mut S,
+        serials: &mut N,
+    ) -> Result<Answer, Fault>
         requires pool { (is_partition self.old.home.part ≡ true) × (is_kib self.old.home.kib ≡ true) }
         requires command { command.now ≡ Command.Queue name.now None }
         requires name { IsTrue (is_queue_name name.now) }
@@ -112,7 +118,13 @@ impl Session {
     }
 
     /// Puts a message into its queue's file, where the machine takes the command and the file has room.
-    fn put<S: Site>(&mut self, name: &Name, body: &Bytes, command: &Command, site: &mut S) -> Result<Answer, Fault>
+    fn put<S: Site>(
+        &mut self,
+        name: &Name,
+        body: &Bytes,
+        command: &Command,
+        site: &mut S,
+    ) -> Result<Answer, Fault>
         requires pool { is_kib self.old.home.kib ≡ true }
         requires command { command.now ≡ Command.Put name.now body.now None }
         requires size { length body.now ≤ 1048576 }
@@ -143,7 +155,12 @@ impl Session {
     }
 
     /// Runs a command.
-    fn run_command<S: Site, N: Serials>(&mut self, command: &Command, site: &mut S, serials: &mut N) -> Result<Answer, Fault>
+    fn run_command<S: Site, N: Serials>(
+        &mut self,
+        command: &Command,
+        site: &mut S,
+        serials: &mut N,
+    ) -> Result<Answer, Fault>
         requires pool { (is_partition self.old.home.part ≡ true) × (is_kib self.old.home.kib ≡ true) }
         requires within { IsWithin command.now }
         requires fits { IfSome (S.told site.old) (FitsSession self.old) }
@@ -164,7 +181,12 @@ impl Session {
     }
 
     /// The answer to a line, which is run.
-    fn answer_line<S: Site, N: Serials>(&mut self, line: &[u8], site: &mut S, serials: &mut N) -> Result<Answer, Fault>
+    fn answer_line<S: Site, N: Serials>(
+        &mut self,
+        line: &[u8],
+        site: &mut S,
+        serials: &mut N,
+    ) -> Result<Answer, Fault>
         requires pool { (is_partition self.old.home.part ≡ true) × (is_kib self.old.home.kib ≡ true) }
         requires fits { IfSome (S.told site.old) (FitsSession self.old) }
         ensures told { Tells (EndsIn (RunsCommand self.old.state (built_line (command_of line.now)) self.new) (Passes Quietly) result) (S.told site.old) (S.told site.new) }
@@ -179,7 +201,12 @@ impl Session {
     }
 
     /// Runs one line, and answers it.
-    pub(crate) fn run_line<S: Site, N: Serials>(&mut self, line: &[u8], site: &mut S, serials: &mut N) -> Result<(), Fault>
+    pub(crate) fn run_line<S: Site, N: Serials>(
+        &mut self,
+        line: &[u8],
+        site: &mut S,
+        serials: &mut N,
+    ) -> Result<(), Fault>
         requires pool { (is_partition self.old.home.part ≡ true) × (is_kib self.old.home.kib ≡ true) }
         requires fits { IfSome (S.told site.old) (FitsSession self.old) }
         ensures told { Tells (EndsIn (λ _. RunsLine self.old.state (command_of line.now) self.new) (Passes Quietly) result) (S.told site.old) (S.told site.new) }
