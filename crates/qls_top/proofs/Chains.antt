@@ -1,9 +1,9 @@
 -- Moments that calls add, one call after another.
-use Rattle.std.proofs.Common.{◌≡◌, ◌⊎◌, inl, inr, ℕ, List, [], ◌∷◌, ◌++◌, Option, Some, None, Result, Ok, Err, refl, sym, ap, ◌∙◌, subst, append_assoc, append-nil}
+use Rattle.std.proofs.Common.{◌≡◌, inl, List, [], ◌∷◌, ◌++◌, Option, Result, Ok, Err, refl, sym, ap, ◌∙◌, subst, append_assoc, append-nil}
 use Rattle.qls_site.specs.declared.site.SiteError.{SiteError}
 use Rattle.qls_site.specs.declared.site.SiteError.TheVariants.{Failed, Memory}
-use Rattle.qls_site.specs.Disk.{Disk, IsQuiet}
-use Rattle.qls_site.specs.Content.{Moment, Content, Acts, Stays, MayAct, Leads, Tells, on_disk, on_answered}
+use Rattle.qls_site.specs.Disk.{Disk}
+use Rattle.qls_site.specs.Content.{Moment, Content, Acts, Stays, MayAct, Leads, Tells, on_disk}
 use Rattle.qls_site.proofs.Told.{Tells-then, Tells-weaken}
 use Rattle.std.proofs.Common.{IsErr}
 use Rattle.qls_top.specs.Moments.{EndsIn, Chain, last_moment, Passes, Arrives, Quietly}

@@ -1,11 +1,10 @@
 -- Lines of a script that is read in pieces.
-use Rattle.std.proofs.Common.{◌≡◌, ◌≢◌, ℕ, zero, suc, ◌||◌, ◌+◌, ◌-◌, ◌<◌, ◌≤◌, Bool, true, false, cond, eqb, List, [], ◌∷◌, ◌++◌, length, take, drop, refl, sym, ap, ◌∙◌, subst, arith, append_assoc, take-append-drop, length-append, length-take, get_or, Option, Some, None}
+use Rattle.std.proofs.Common.{◌≡◌, ℕ, zero, suc, ◌||◌, ◌+◌, ◌-◌, ◌<◌, ◌≤◌, Bool, true, false, cond, eqb, List, [], ◌∷◌, ◌++◌, length, take, drop, refl, sym, ap, ◌∙◌, subst, arith, append_assoc, take-append-drop, length-append, length-take, Option, Some, None}
 use Rattle.std.proofs.Math.Seq.{take-append-add}
 use Rattle.std.proofs.lemmas.List.{length-take-le, take_all, drop-take, drop-drop}
 use borrow.Author.Tests.{ltb-true, ltb-false}
-use Rattle.std.specs.List.{list_any}
 use Rattle.qls_command.specs.Lines.{lines, onto_first}
-use Rattle.std.proofs.Common.{Result, Ok, Err, nat_lt, not, append-nil, lit<, ◌==◌}
+use Rattle.std.proofs.Common.{Ok, Err, nat_lt, not, append-nil, lit<, ◌==◌}
 use Rattle.std.proofs.lemmas.List.Folds.{list_any-append}
 use Rattle.std.proofs.lemmas.Bool.{or_from}
 use Rattle.qls_site.specs.Content.{Gives, Takes}

@@ -1,27 +1,21 @@
 -- A session that fits the disk: what the disk then holds, and what each step keeps.
-use Rattle.std.proofs.Common.{◌≡◌, ◌⊎◌, inl, inr, ℕ, zero, suc, Bool, true, false, cond, eqb, ltb, leb, ◌&&◌, ◌||◌, ◌+◌, ◌-◌, ◌*◌, ◌/◌, ◌%◌, ◌^◌, ◌<◌, ◌≤◌, List, [], ◌∷◌, ◌++◌, map, length, take, drop, replicate, Option, Some, None, Result, Ok, Err, option_map, refl, sym, ap, ◌∙◌, subst, arith, length-append, length-take, length-drop, append_assoc, append-nil, IsTrue, eq-eqb, take-append-drop}
-use Rattle.std.specs.List.{flat_map, AllByRecursion}
+use Rattle.std.proofs.Common.{◌≡◌, ◌⊎◌, inl, inr, ℕ, zero, suc, Bool, true, false, cond, eqb, ltb, leb, ◌&&◌, ◌||◌, ◌+◌, ◌*◌, ◌^◌, ◌<◌, ◌≤◌, List, [], ◌∷◌, ◌++◌, map, length, take, drop, replicate, Option, Some, None, Result, Ok, Err, refl, sym, ap, ◌∙◌, subst, arith, length-append, IsTrue}
+use Rattle.std.specs.List.{AllByRecursion}
 use Rattle.std.specs.Option.{option_or}
-use Rattle.std.proofs.lemmas.Bool.{and_parts, eqb-true, lt-ltb, le-leb, ltb-true, leb-true}
-use Rattle.std.proofs.lemmas.Grind.{flat_map-append}
-use Rattle.std.proofs.Math.Seq.{take-append_seam, drop-append_seam}
-use Rattle.std.proofs.lemmas.List.{take_at, drop_at, drop-drop}
-use Rattle.std.proofs.Math.ListN.{length-replicate, set}
+use Rattle.std.proofs.lemmas.Bool.{and_parts, eqb-true, lt-ltb, le-leb, leb-true}
+use Rattle.std.proofs.lemmas.List.{take_at, drop_at}
+use Rattle.std.proofs.Math.ListN.{length-replicate}
 use Rattle.qls_model.specs.Bytes.{same}
-use Rattle.qls_model.specs.Messages.{with_message}
-use Rattle.qls_model.specs.Machine.{MachineState, queue_named, with_queue, change_queue}
+use Rattle.qls_model.specs.Machine.{MachineState, queue_named, with_queue}
 use Rattle.qls_model.specs.declared.machine.PoolId.{PoolId}
 use Rattle.qls_model.specs.declared.machine.Message.{Message}
 use Rattle.qls_model.specs.declared.machine.QueueState.{QueueState}
 use Rattle.qls_shape.specs.Claims.{claim, ◌>>◌}
 use Rattle.qls_shape.specs.declared.Version.TheVariants.{Two}
-use Rattle.qls_site.specs.declared.site.Place.TheVariants.{InUse}
-use Rattle.qls_site.specs.Disk.{Disk, FileState, Write, IsQuiet, file_of, changed, with_file, write_at, sync_at, written, all_written, full_file}
-use Rattle.qls_site.specs.Content.{Content, Moment, HasRange, LacksFile, InFile}
-use Rattle.qls_site.proofs.DiskLaws.{length-written}
+use Rattle.qls_site.specs.Disk.{Disk, FileState, IsQuiet, file_of, with_file, all_written, full_file}
+use Rattle.qls_site.specs.Content.{Content, LacksFile}
 use Rattle.qls_site.proofs.Told.{file_of-with_file}
 use Rattle.qls_record.specs.Record.{Record, is_legal, record_length}
-use Rattle.qls_record.specs.Spelling.{spelling}
 use Rattle.qls_filehdr.specs.declared.FileHeader.{FileHeader}
 use Rattle.qls_filehdr.specs.declared.Rule.{Rule}
 use Rattle.qls_filehdr.specs.Limits.{is_legal_header, is_name}
@@ -34,14 +28,12 @@ use Rattle.qls_filehdr.proofs.HeaderTrip.{header_of-header_spelling}
 use Rattle.qls_meaning.specs.Journals.{headed, Headed}
 use Rattle.qls_meaning.specs.Reading.{epoch_reading}
 use Rattle.qls_top.specs.declared.files.QueueFile.{QueueFile}
-use Rattle.qls_top.specs.Answers.{blocks, blocks_of}
-use Rattle.qls_top.specs.Stored.{HoldsQueue, HasOneFile, IsFileOf, IsStored, only_header, enqueue_of, filler_of, units_left, records_of, all_records}
-use Rattle.qls_top.specs.Steps.{fresh_file, block_bytes}
+use Rattle.qls_top.specs.Stored.{HoldsQueue, IsFileOf, IsStored, only_header, enqueue_of, filler_of, units_left, records_of, all_records}
+use Rattle.qls_top.specs.Steps.{fresh_file}
 use Rattle.qls_top.specs.Table.{entry_named, spelled_queue, IsPlainMessage, Keeps, Pairs, HasEntry, Fits}
-use Rattle.qls_top.proofs.Blocks.{length-block, length-all, blocks_of-append, all_records-append, blocks_some}
 use Rattle.qls_top.proofs.OneReading.{AllLegal, one_reading}
 use Rattle.qls_top.proofs.NewFile.{header_length}
-use Rattle.qls_top.proofs.Tables.{named, same-self, differ, queue_named-with_queue, queue_named-change_queue, queue_named-name, changed_queue, file_of-with_file_any, file_of-id, file_of-written, quiet-with_file, quiet-written, with_write, with_sync, entry_named-push, entry_named-set}
+use Rattle.qls_top.proofs.Tables.{named, same-self, queue_named-with_queue, queue_named-name, file_of-with_file_any, quiet-with_file, entry_named-push}
 
 -- ---- the records of plain messages are legal
 

@@ -1,5 +1,5 @@
 -- A line that is run and answered, and a script that is run line by line.
-use Rattle.std.proofs.Common.{◌≡◌, ◌≢◌, ◌⊎◌, inl, inr, ℕ, zero, suc, Bool, true, false, cond, leb, ◌+◌, ◌<◌, ◌≤◌, List, [], ◌∷◌, ◌++◌, map, length, take, Option, Some, None, IfSome, Result, Ok, Err, refl, sym, ap, ◌∙◌, subst, arith, append_assoc, append-nil, length-take}
+use Rattle.std.proofs.Common.{◌≡◌, ◌≢◌, inl, inr, ℕ, Bool, true, false, cond, leb, ◌<◌, List, [], ◌∷◌, ◌++◌, map, length, take, Option, Some, None, IfSome, Result, Ok, Err, refl, sym, ap, ◌∙◌, subst, arith, append_assoc, append-nil, length-take}
 use Rattle.std.proofs.lemmas.Bool.{leb-true}
 use Rattle.std.proofs.lemmas.List.{take_all}
 use Rattle.qls_model.specs.declared.machine.PoolId.{PoolId}
@@ -18,14 +18,14 @@ use Rattle.qls_top.specs.declared.session.Session.{Session}
 use Rattle.qls_top.specs.declared.fault.Fault.{Fault}
 use Rattle.qls_top.specs.declared.fault.Fault.TheVariants as fault
 use Rattle.qls_top.specs.Answers.{answer_text, answer_line, built_line, state_answered, answers_text}
-use Rattle.qls_top.specs.Cutting.{Cutter, kept_of_line, Cuts, CutsTold, script_limit, CountsDown, Counted}
+use Rattle.qls_top.specs.Cutting.{Cutter, kept_of_line, CutsTold}
 use Rattle.qls_top.specs.Moments.{Arrives, Passes, Quietly, EndsIn}
-use Rattle.qls_top.specs.Table.{Fits, Pairs, HasEntry, entry_named}
+use Rattle.qls_top.specs.Table.{Fits, Pairs, entry_named}
 use Rattle.qls_top.specs.Sessions.{FitsSession, RunsCommand, RunsLine, HasQuietDisk}
 use Rattle.std.proofs.Common.{IfErr}
 use Rattle.qls_top.specs.Status.{IsOfLines, status_of}
 use Rattle.qls_top.specs.Run.{IsUnderWay, UnderWay, IsRun, EndsFrom, Starts, StartsOn, StartsWith, StaysAsItWas, refuses_status, refuses_files, status_of_result}
-use Rattle.qls_top.proofs.Chains.{Went, Goes, Arrives-then, Arrives-acts, Arrives-passes, Passes-may, Passes-same, Passes-of}
+use Rattle.qls_top.proofs.Chains.{Went, Goes, Arrives-then, Arrives-acts, Arrives-passes, Passes-may, Passes-same}
 use Rattle.qls_site.proofs.Told.{Tells-then}
 use Rattle.qls_top.proofs.Putting.{fits_empty}
 use Rattle.qls_top.proofs.Fitting.{stored}

@@ -1,5 +1,5 @@
 -- What the machine does with a new queue and with a put, by whether the queue is there.
-use Rattle.std.proofs.Common.{◌≡◌, ℕ, Bool, true, false, cond, ◌&&◌, ◌+◌, ◌-◌, ◌/◌, ◌^◌, ◌==◌, eqb, ltb, List, [], ◌∷◌, length, Option, Some, None, refl, sym, ap, ◌∙◌}
+use Rattle.std.proofs.Common.{◌≡◌, ℕ, Bool, true, false, cond, ◌&&◌, ◌+◌, ◌-◌, ◌/◌, ◌^◌, ◌==◌, eqb, ltb, List, [], ◌∷◌, length, Option, Some, None, refl, ap, ◌∙◌}
 use Rattle.std.specs.Option.{is_some, is_none}
 use Rattle.qls_model.specs.Messages.{with_message}
 use Rattle.qls_model.specs.Machine.{MachineState, queue_named, with_queue, change_queue, step, answered, first_true, refusals, put_message, passes, next_number}
@@ -9,9 +9,8 @@ use Rattle.qls_model.specs.declared.machine.Refusal.{Refusal}
 use Rattle.qls_model.specs.declared.machine.Refusal.TheVariants as refusal
 use Rattle.qls_model.specs.declared.machine.Reply.{Reply}
 use Rattle.qls_model.specs.declared.machine.Reply.TheVariants.{Done, Number, Refused}
-use Rattle.qls_top.specs.Answers.{answer_built, plain, is_full, blocks, blocks_of}
-use Rattle.qls_top.specs.declared.answer.Answer.{Answer}
-use Rattle.qls_top.specs.declared.answer.Answer.TheVariants.{Plain, Full}
+use Rattle.qls_top.specs.Answers.{answer_built, plain, blocks, blocks_of}
+use Rattle.qls_top.specs.declared.answer.Answer.TheVariants.{Full}
 
 abbrev pub after_queue : MachineState → List ℕ → Option QueueState → MachineState × Reply
 after_queue S name None = (record S { queues = with_queue (record { name = name; last = 0; messages = [] }) S.queues }, Done)

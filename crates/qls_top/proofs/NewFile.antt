@@ -1,17 +1,16 @@
 -- A new file, from its creation to its use.
-use Rattle.std.proofs.Common.{◌≡◌, ℕ, Bool, true, false, cond, eqb, ltb, eq-eqb, zero, suc, ◌+◌, ◌*◌, ◌≤◌, List, [], ◌∷◌, ◌++◌, length, take, drop, replicate, map, Option, Some, None, IfSome, refl, sym, ap, ◌∙◌, subst, arith, IsTrue}
+use Rattle.std.proofs.Common.{◌≡◌, ℕ, Bool, true, false, cond, eqb, ltb, eq-eqb, zero, suc, ◌+◌, ◌*◌, ◌≤◌, List, [], ◌∷◌, ◌++◌, length, take, drop, replicate, Option, Some, None, IfSome, refl, sym, ap, ◌∙◌, arith, IsTrue}
 use Rattle.std.proofs.Math.ListN.{length-replicate}
-use Rattle.qls_site.specs.declared.site.Place.{Place}
 use Rattle.qls_site.specs.declared.site.Place.TheVariants.{InUse, Empty}
-use Rattle.qls_site.specs.Disk.{Disk, FileState, file_of, changed, change_file, with_file, write_at, sync_at, create_at, relocate_at, all_written, written}
-use Rattle.qls_site.specs.Content.{Moment, Content, Acts, Tells, on_disk, LacksFile}
+use Rattle.qls_site.specs.Disk.{Disk, FileState, file_of, change_file, with_file, write_at, sync_at, create_at, relocate_at, all_written}
+use Rattle.qls_site.specs.Content.{Content, Acts, Tells, on_disk, LacksFile}
 use Rattle.qls_filehdr.specs.declared.FileHeader.{FileHeader}
 use Rattle.std.proofs.Common.{◌-◌, codes, length-append}
 use Rattle.qls_shape.specs.Fields.{u16, u32, u64}
 use Rattle.qls_shape.specs.Adler.{adler_of}
 use Rattle.qls_filehdr.specs.Header.{header_spelling, header_front, version_of, kind_number}
 use Rattle.qls_filehdr.proofs.HeaderTrip.{legal_parts, name_fits}
-use Rattle.std.proofs.Common.{inl, inr}
+use Rattle.std.proofs.Common.{inl}
 use Rattle.qls_filehdr.specs.Limits.{is_legal_header}
 use Rattle.qls_top.specs.Steps.{fresh_file, MakesFile}
 use Rattle.qls_top.specs.Moments.{Quietly}

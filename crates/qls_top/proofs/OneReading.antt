@@ -1,10 +1,9 @@
 -- What is read of a file that holds the spellings of records, and zeros behind them.
-use Rattle.std.proofs.Common.{◌≡◌, ℕ, zero, suc, Bool, true, false, cond, ltb, eqb, ◌+◌, ◌-◌, ◌*◌, ◌/◌, ◌<◌, ◌≤◌, List, [], ◌∷◌, ◌++◌, map, length, take, drop, replicate, Option, Some, None, refl, sym, ap, ◌∙◌, subst, arith, length-append, append_assoc, append-nil, IsTrue}
+use Rattle.std.proofs.Common.{◌≡◌, ℕ, zero, suc, true, cond, ltb, eqb, ◌+◌, ◌-◌, ◌*◌, ◌/◌, ◌<◌, ◌≤◌, List, [], ◌∷◌, ◌++◌, map, length, drop, replicate, Option, Some, None, refl, sym, ap, ◌∙◌, arith, length-append, append_assoc, append-nil, IsTrue}
 use Rattle.std.specs.List.{flat_map, AllByRecursion}
 use Rattle.std.proofs.Math.Seq.{drop-append_seam}
 use Rattle.std.proofs.lemmas.List.{drop-drop}
 use Rattle.std.proofs.Math.ListN.{length-replicate}
-use borrow.Author.Tests.{ltb-true, ltb-false}
 use Rattle.qls_shape.specs.declared.Version.TheVariants.{Two}
 use Rattle.qls_record.specs.Record.{Record, is_legal, record_length}
 use Rattle.qls_record.specs.Spelling.{spelling, record_at}
@@ -12,7 +11,7 @@ use Rattle.qls_record.proofs.RoundTrip.{record_at-spelling}
 use Rattle.qls_record.proofs.RecordLength.{length-spelling, record_length_least}
 use Rattle.qls_meaning.specs.Journals.{Headed}
 use Rattle.qls_meaning.specs.Reading.{Holder, Placed, holder, stream, record_in, held_record, length_in, held_length, placed_from, records_from, end_from, and_then, epoch_reading, begin_place}
-use Rattle.qls_laws.specs.Readings.{Stand, fuel}
+use Rattle.qls_laws.specs.Readings.{Stand}
 use Rattle.qls_laws.proofs.Reaches.{fuel-length, reaches}
 
 -- no record is spelled by zeros

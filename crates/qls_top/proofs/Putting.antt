@@ -1,12 +1,11 @@
 -- A message that is put into its queue's file.
-use Rattle.std.proofs.Common.{◌≡◌, ◌⊎◌, inl, inr, ℕ, zero, suc, Bool, true, false, cond, eqb, leb, ltb, ◌&&◌, ◌+◌, ◌-◌, ◌*◌, ◌/◌, ◌%◌, ◌^◌, ◌<◌, ◌≤◌, List, [], ◌∷◌, ◌++◌, map, length, take, drop, replicate, Option, Some, None, option_map, refl, sym, ap, ◌∙◌, subst, arith, length-append, append_assoc, append-nil, IsTrue, get_or, eq-eqb}
+use Rattle.std.proofs.Common.{◌≡◌, ℕ, Bool, true, false, cond, eqb, ◌+◌, ◌-◌, ◌*◌, ◌/◌, ◌^◌, ◌<◌, ◌≤◌, List, [], ◌∷◌, ◌++◌, length, take, drop, replicate, Option, Some, None, option_map, refl, sym, ap, ◌∙◌, subst, arith, length-append, append_assoc, get_or, eq-eqb}
 use Rattle.std.specs.List.{flat_map, AllByRecursion}
 use Rattle.std.proofs.lemmas.Bool.{eqb-true, leb-true, and_parts}
 use Rattle.std.proofs.lemmas.Grind.{flat_map-append}
 use Rattle.std.proofs.lemmas.List.{take_at, drop_at, drop-drop, length-set}
 use Rattle.std.proofs.Math.ListN.{length-replicate, set}
 use Rattle.qls_model.specs.Bytes.{same}
-use Rattle.qls_model.specs.Limits.{is_kib}
 use Rattle.qls_model.specs.Messages.{with_message}
 use Rattle.qls_model.specs.Machine.{MachineState, queue_named, change_queue}
 use Rattle.qls_model.specs.declared.machine.PoolId.{PoolId}
@@ -14,7 +13,7 @@ use Rattle.qls_model.specs.declared.machine.Message.{Message}
 use Rattle.qls_model.specs.declared.machine.Status.TheVariants.{Ready}
 use Rattle.qls_model.specs.declared.machine.QueueState.{QueueState}
 use Rattle.qls_shape.specs.declared.Version.TheVariants.{Two}
-use Rattle.qls_site.specs.Disk.{Disk, FileState, Write, IsQuiet, file_of, changed, write_at, sync_at, written, all_written}
+use Rattle.qls_site.specs.Disk.{Disk, FileState, IsQuiet, file_of, changed, write_at, sync_at, written, all_written}
 use Rattle.qls_site.specs.Content.{Content, HasRange, InFile}
 use Rattle.qls_site.proofs.DiskLaws.{length-written}
 use Rattle.qls_record.specs.Spelling.{spelling}

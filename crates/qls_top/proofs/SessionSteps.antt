@@ -1,7 +1,7 @@
 -- What a session's steps leave, where the site tells its content.
-use Rattle.std.proofs.Common.{◌≡◌, ◌⊎◌, inl, inr, ℕ, Bool, true, false, cond, eqb, ltb, ◌+◌, ◌-◌, ◌*◌, ◌/◌, ◌^◌, ◌<◌, ◌≤◌, List, [], ◌∷◌, ◌++◌, length, take, Option, Some, None, Result, Ok, Err, IfSome, refl, sym, ap, ◌∙◌, subst, arith, IsTrue, get_or}
+use Rattle.std.proofs.Common.{◌≡◌, ◌⊎◌, inl, inr, ℕ, true, false, eqb, ltb, ◌+◌, ◌-◌, ◌*◌, ◌/◌, ◌^◌, ◌<◌, ◌≤◌, List, [], ◌∷◌, ◌++◌, length, take, Option, Some, None, IfSome, refl, sym, ap, ◌∙◌, subst, arith, get_or}
 use Rattle.std.proofs.Math.ListN.{set}
-use Rattle.std.proofs.lemmas.Bool.{ltb-true, lt-ltb}
+use Rattle.std.proofs.lemmas.Bool.{lt-ltb}
 use Rattle.qls_model.specs.Limits.{is_partition, is_kib, is_queue_name}
 use Rattle.qls_model.specs.Machine.{MachineState, queue_named, with_queue, change_queue, step, put_message}
 use Rattle.qls_model.specs.Messages.{with_message}
@@ -12,8 +12,8 @@ use Rattle.qls_model.specs.declared.machine.Command.TheVariants as command
 use Rattle.qls_model.specs.declared.machine.Reply.{Reply}
 use Rattle.qls_model.specs.declared.machine.Reply.TheVariants.{Done, Number, Refused}
 use Rattle.qls_model.specs.declared.machine.Refusal.TheVariants as refusal
-use Rattle.qls_site.specs.Disk.{Disk, FileState, file_of, write_at, sync_at}
-use Rattle.qls_site.specs.Content.{Content, Moment, Tells, LacksFile, HasRange, InFile}
+use Rattle.qls_site.specs.Disk.{Disk, write_at, sync_at}
+use Rattle.qls_site.specs.Content.{Content, Moment, Tells}
 use Rattle.qls_top.specs.declared.answer.Answer.{Answer}
 use Rattle.qls_top.specs.declared.answer.Answer.TheVariants.{Plain, Full}
 use Rattle.qls_top.specs.declared.files.QueueFile.{QueueFile}
@@ -23,11 +23,11 @@ use Rattle.qls_top.specs.Stored.{only_header}
 use Rattle.qls_top.specs.Steps.{MakesFile, WritesBlock, block_bytes}
 use Rattle.qls_top.specs.Table.{entry_named, Keeps, Pairs, Fits}
 use Rattle.qls_top.specs.Sessions.{FitsSession, RunsCommand}
-use Rattle.qls_top.specs.Moments.{Arrives, Quietly}
+use Rattle.qls_top.specs.Moments.{Quietly}
 use Rattle.qls_top.proofs.Chains.{Arrives-none}
 use Rattle.qls_top.proofs.Machine.{after_queue, queue_step, queue_plain, put_nowhere, put_refused, put_step, put_full, put_room}
-use Rattle.qls_top.proofs.Fitting.{fits_queue, legal_only_header, lacks_next, paired, paired_none}
-use Rattle.qls_top.proofs.Putting.{fits_put, few_messages, put_range}
+use Rattle.qls_top.proofs.Fitting.{fits_queue, legal_only_header, paired}
+use Rattle.qls_top.proofs.Putting.{fits_put, few_messages}
 
 -- ---- a new queue
 

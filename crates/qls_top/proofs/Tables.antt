@@ -1,15 +1,15 @@
 -- Look-ups after a change of one entry: queues by name, files by id, and the table's entries by name.
-use Rattle.std.proofs.Common.{eq-eqb, ◌≡◌, ℕ, zero, suc, Bool, true, false, cond, eqb, ltb, ◌<◌, ◌≤◌, ◌+◌, List, [], ◌∷◌, ◌++◌, length, take, map, Option, Some, None, option_map, refl, sym, ap, ◌∙◌, subst, arith, get_or}
+use Rattle.std.proofs.Common.{eq-eqb, ◌≡◌, ℕ, zero, suc, Bool, true, false, cond, eqb, ltb, ◌<◌, List, [], ◌∷◌, ◌++◌, length, take, Option, Some, None, option_map, refl, sym, ap, ◌∙◌, arith, get_or}
 use Rattle.std.proofs.Math.ListN.{set}
 use Rattle.std.proofs.lemmas.Bool.{eqb-true}
-use Rattle.std.specs.List.{find, filter, slice_get, AllByRecursion}
+use Rattle.std.specs.List.{slice_get}
 use Rattle.std.specs.Option.{option_or}
 use Rattle.std.specs.Cmp.Lexicographic.{bytes_decides}
 use Rattle.std.proofs.lemmas.List.Folds.{find-append}
 use Rattle.qls_model.specs.Bytes.{same, comes_before}
 use Rattle.qls_model.specs.declared.machine.QueueState.{QueueState}
 use Rattle.qls_model.specs.Machine.{queue_named, with_queue, change_queue}
-use Rattle.qls_site.specs.Disk.{Disk, FileState, Write, IsQuiet, file_of, with_file, changed, change_file, write_at, sync_at, all_written}
+use Rattle.qls_site.specs.Disk.{Disk, FileState, IsQuiet, file_of, with_file, changed, write_at, sync_at, all_written}
 use Rattle.qls_site.proofs.Told.{file_of-change_file}
 use Rattle.qls_top.specs.declared.files.QueueFile.{QueueFile}
 use Rattle.qls_top.specs.Table.{entry_named}

@@ -1,9 +1,6 @@
 -- The commands whose lines are built so far, and the answers to them while a queue has one file that doesn't grow.
-use Rattle.std.specs.Prelude.{◌≡◌, ℕ, ◌+◌, ◌*◌, ◌/◌, Bool, true, false, ◌&&◌, List, [], ◌∷◌, ◌++◌, length, Option, Some, None, is_none, if◌then◌else◌, nat_lt, codes}
-use Rattle.std.specs.List.{sum_by, flat_map}
+use Rattle.std.specs.Prelude.{ℕ, ◌+◌, ◌/◌, Bool, false, ◌&&◌, List, [], ◌∷◌, ◌++◌, length, Option, Some, None, is_none, if◌then◌else◌, nat_lt, codes}
 use Rattle.qls_model.specs.declared.machine.Message.{Message}
-use Rattle.qls_model.specs.declared.machine.QueueState.{QueueState}
-use Rattle.qls_model.specs.declared.machine.PoolId.{PoolId}
 use Rattle.qls_model.specs.declared.machine.Command.{Command}
 use Rattle.qls_model.specs.declared.machine.Command.TheVariants as command
 use Rattle.qls_model.specs.declared.machine.Reply.{Reply}

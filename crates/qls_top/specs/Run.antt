@@ -1,9 +1,9 @@
 -- What a run answers and leaves, by its status.
-use Rattle.std.specs.Prelude.{◌≡◌, ◌≢◌, ◌⊎◌, ℕ, ◌+◌, ◌<◌, ◌≤◌, Bool, true, false, List, [], ◌∷◌, ◌++◌, length, Option, Some, None, Result, Ok, Err, ◌==◌}
+use Rattle.std.specs.Prelude.{◌≡◌, ◌≢◌, ℕ, ◌+◌, ◌≤◌, Bool, true, false, List, [], ◌∷◌, ◌++◌, length, Option, Some, None, Result, Ok, Err, ◌==◌}
 use Rattle.std.specs.List.{list_any, AllByRecursion}
 use Rattle.qls_model.specs.declared.machine.PoolId.{PoolId}
 use Rattle.qls_model.specs.Machine.{MachineState, empty_state}
-use Rattle.qls_site.specs.Disk.{Disk, IsQuiet}
+use Rattle.qls_site.specs.Disk.{Disk}
 use Rattle.qls_site.specs.Content.{Content, Moment}
 use Rattle.qls_command.specs.Lines.{commands}
 use Rattle.qls_top.specs.declared.fault.Fault.{Fault}
@@ -13,8 +13,6 @@ use Rattle.qls_top.specs.declared.words.Job.TheVariants.{Run}
 use Rattle.qls_top.specs.declared.session.Session.{Session}
 use Rattle.qls_top.specs.Answers.{state_answered, answers_text}
 use Rattle.qls_top.specs.Cutting.{script_limit}
-use Rattle.qls_top.specs.Moments.{Chain, Arrives, Passes, Quietly}
-use Rattle.qls_top.specs.Sessions.{FitsSession}
 use Rattle.qls_top.specs.Stored.{IsStored}
 
 -- ---- a script that was run to its end

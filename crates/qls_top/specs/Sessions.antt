@@ -1,13 +1,10 @@
 -- What a session's steps do.
-use Rattle.std.specs.Prelude.{◌≡◌, ℕ, ◌≤◌, ◌++◌, Bool, List, length, Option, Some, None, Result, Ok, Err, IsTrue, ◌&&◌}
+use Rattle.std.specs.Prelude.{◌≡◌, ◌++◌, Option}
 use Rattle.qls_model.specs.Machine.{MachineState}
 use Rattle.qls_model.specs.declared.machine.Command.{Command}
 use Rattle.qls_site.specs.Disk.{IsQuiet}
-use Rattle.qls_site.specs.Content.{Content, Rose}
+use Rattle.qls_site.specs.Content.{Content}
 use Rattle.qls_top.specs.declared.answer.Answer.{Answer}
-use Rattle.qls_top.specs.declared.fault.Fault.{Fault}
-use Rattle.qls_top.specs.declared.fault.Fault.TheVariants as fault
-use Rattle.qls_top.specs.declared.files.QueueFile.{QueueFile}
 use Rattle.qls_top.specs.declared.session.Session.{Session}
 use Rattle.qls_top.specs.Answers.{answer_text, answer_built, answer_line}
 use Rattle.qls_top.specs.Moments.{Arrives, Quietly}

@@ -1,11 +1,10 @@
 -- What a session's steps do to the told content.
-use Rattle.std.specs.Prelude.{◌≡◌, ℕ, ◌+◌, ◌*◌, List, [], ◌∷◌, ◌++◌, length, replicate}
+use Rattle.std.specs.Prelude.{◌≡◌, ℕ, ◌*◌, List, [], ◌++◌, replicate}
 use Rattle.std.specs.List.{flat_map}
-use Rattle.qls_model.specs.declared.machine.Message.{Message}
 use Rattle.qls_model.specs.declared.machine.Status.TheVariants.{Ready}
 use Rattle.qls_shape.specs.declared.Version.TheVariants.{Two}
 use Rattle.qls_site.specs.declared.site.Place.TheVariants.{InUse}
-use Rattle.qls_site.specs.Disk.{Disk, FileState, with_file, write_at, sync_at}
+use Rattle.qls_site.specs.Disk.{FileState, with_file, write_at, sync_at}
 use Rattle.qls_site.specs.Content.{Content, on_disk}
 use Rattle.qls_record.specs.Spelling.{spelling}
 use Rattle.qls_filehdr.specs.declared.FileHeader.{FileHeader}

@@ -1,7 +1,6 @@
 -- What the files of a disk hold, while a queue has one file that doesn't grow.
-use Rattle.std.specs.Prelude.{◌≡◌, ℕ, ◌+◌, ◌-◌, ◌*◌, ◌/◌, ◌%◌, ◌≤◌, Bool, true, false, List, [], ◌∷◌, ◌++◌, map, length, take, drop, replicate, Option, Some, None, Ok, IsTrue}
-use Rattle.std.specs.List.{flat_map, find, AllByRecursion}
-use Rattle.qls_model.specs.Bytes.{same}
+use Rattle.std.specs.Prelude.{◌≡◌, ℕ, ◌-◌, ◌/◌, ◌%◌, true, false, List, [], ◌∷◌, map, take, replicate, Option, Some, None, Ok}
+use Rattle.std.specs.List.{flat_map}
 use Rattle.qls_model.specs.declared.machine.Message.{Message}
 use Rattle.qls_model.specs.declared.machine.QueueState.{QueueState}
 use Rattle.qls_model.specs.declared.machine.PoolId.{PoolId}
@@ -11,10 +10,9 @@ use Rattle.qls_site.specs.declared.site.Place.TheVariants.{InUse}
 use Rattle.qls_site.specs.Disk.{Disk, FileState, IsQuiet, file_of, full_file}
 use Rattle.qls_record.specs.declared.Kind.TheVariants.{Enqueue, Filler}
 use Rattle.qls_record.specs.Record.{Record, record_length}
-use Rattle.qls_record.specs.Spelling.{spelling, record_at}
 use Rattle.qls_filehdr.specs.declared.JournalKind.TheVariants.{Queue}
 use Rattle.qls_filehdr.specs.declared.FileHeader.{FileHeader}
-use Rattle.qls_filehdr.specs.Header.{header_of, header_spelling}
+use Rattle.qls_filehdr.specs.Header.{header_of}
 use Rattle.qls_meaning.specs.Journals.{headed}
 use Rattle.qls_meaning.specs.Reading.{epoch_reading}
 

@@ -1,5 +1,5 @@
 -- A session's table of files, and how it fits the machine's state and the disk.
-use Rattle.std.specs.Prelude.{◌≡◌, ℕ, ◌+◌, ◌*◌, ◌^◌, ◌<◌, ◌≤◌, Bool, true, List, [], ◌++◌, length, replicate, Option, Some, None, IsTrue}
+use Rattle.std.specs.Prelude.{◌≡◌, ℕ, ◌+◌, ◌*◌, ◌^◌, ◌<◌, ◌≤◌, true, List, [], ◌++◌, length, replicate, Option, Some, None, IsTrue}
 use Rattle.std.specs.List.{flat_map, find, AllByRecursion}
 use Rattle.qls_model.specs.Bytes.{same}
 use Rattle.qls_model.specs.declared.machine.PoolId.{PoolId}

@@ -1,4 +1,4 @@
-use Rattle.std.proofs.Common.{◌≡◌, refl, Ok, Err, ◌∙◌}
+use Rattle.std.proofs.Common.{refl, Ok, Err, ◌∙◌}
 use Rattle.qls_top.proofs.Lines.{starts_with, status_same}
 use Rattle.qls_top.proofs.run.Goals as goal
 

@@ -1,11 +1,9 @@
-use Rattle.std.proofs.Common.{◌≡◌, ◌+◌, ◌≤◌, [], Bool, true, false, Ok, Err, Option, List, ℕ, IfSome, refl, sym, ap, ◌∙◌, subst, arith}
-use Rattle.qls_site.specs.Content.{Content, Tells}
+use Rattle.std.proofs.Common.{Bool, true, List, ℕ, ◌∙◌, subst, arith}
+use Rattle.qls_site.specs.Content.{Tells}
 use Rattle.qls_command.specs.Lines.{command_of}
-use Rattle.qls_top.specs.Cutting.{Cutter, CutsTold, Counted, script_limit}
-use Rattle.qls_top.specs.Moments.{Arrives, Quietly}
-use Rattle.qls_top.specs.Run.{UnderWay}
-use Rattle.qls_top.specs.Sessions.{RunsLine, FitsSession}
-use Rattle.qls_top.proofs.Chains.{Goes, Went, went-then, goes-then}
+use Rattle.qls_top.specs.Cutting.{CutsTold, script_limit}
+use Rattle.qls_top.specs.Sessions.{RunsLine}
+use Rattle.qls_top.proofs.Chains.{went-then}
 use Rattle.qls_top.proofs.CutLines.{counted_then}
 use Rattle.qls_top.proofs.Lines.{line_run, line_went, line_fits, script_ended}
 use Rattle.qls_top.proofs.run_lines.Goals as goal

@@ -1,4 +1,4 @@
-use Rattle.std.proofs.Common.{◌≡◌, ◌≤◌, ◌+◌, true, Ok, IfSome, [], Option}
+use Rattle.std.proofs.Common.{◌≡◌, ◌≤◌, true, Ok, IfSome}
 use Rattle.qls_site.specs.Content.{Tells}
 use Rattle.qls_top.specs.Cutting.{Counted, measured, script_limit}
 use Rattle.qls_top.specs.Moments.{Arrives, Quietly}

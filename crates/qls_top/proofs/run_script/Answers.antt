@@ -1,6 +1,6 @@
 use Rattle.std.proofs.Common.{◌≡◌, length, List, ap, sym, arith, ◌∙◌}
 use Rattle.qls_site.specs.declared.site.FileAt.{FileAt}
-use Rattle.qls_top.proofs.Lines.{starts_empty, fits_started}
+use Rattle.qls_top.proofs.Lines.{starts_empty}
 use Rattle.qls_top.proofs.run_script.Goals as goal
 
 pub returns-clause-starts : goal.returns-clause-starts

@@ -1,9 +1,9 @@
-use Rattle.std.proofs.Common.{◌≡◌, ◌++◌, ◌+◌, ◌*◌, ◌≤◌, ℕ, ap, ◌∙◌, length, replicate, arith, length-append}
+use Rattle.std.proofs.Common.{◌≡◌, ◌++◌, ℕ, ap, ◌∙◌, length, replicate, arith, length-append}
 use Rattle.std.specs.List.{flat_map}
 use Rattle.qls_shape.specs.declared.Version.TheVariants.{Two}
 use Rattle.qls_record.specs.Spelling.{spelling}
 use Rattle.qls_top.specs.Stored.{filler_of}
-use Rattle.qls_top.proofs.Blocks.{one_more, length-fillers}
+use Rattle.qls_top.proofs.Blocks.{length-fillers}
 use Rattle.qls_top.proofs.block.add_fillers.Goals as goal
 
 pub add_record-requires-clause-room : goal.add_record-requires-clause-room

@@ -1,14 +1,11 @@
-use Rattle.std.proofs.Common.{◌≡◌, ℕ, ◌+◌, ◌*◌, ◌≤◌, length, List, [], Option, Some, None, IfSome, refl, arith, ap, ◌∙◌, sym, subst}
+use Rattle.std.proofs.Common.{◌≡◌, ℕ, ◌+◌, ◌*◌, ◌≤◌, length, List, [], Option, IfSome, refl, arith, ap, ◌∙◌, subst}
 use Rattle.qls_site.specs.declared.site.Place.TheVariants.{InUse}
-use Rattle.qls_site.specs.Disk.{FileState, Disk, write_at, create_at, sync_at, relocate_at, all_written}
-use Rattle.qls_site.specs.Content.{Content, Tells, HasRange, HasFile, LacksFile, Acts, Leads, MayAct, Stays, on_disk}
-use Rattle.qls_site.proofs.Told.{Tells-then, Tells-weaken, IfSome-after, HasFile-write, HasRange-create, HasFile-change}
-use Rattle.qls_filehdr.specs.declared.FileHeader.{FileHeader}
-use Rattle.qls_filehdr.specs.Header.{header_spelling}
-use Rattle.qls_top.specs.Moments.{Arrives, Quietly}
-use Rattle.qls_top.specs.Steps.{MakesFile, fresh_file}
-use Rattle.qls_top.proofs.Chains.{Goes, Went, goes-acts, goes-then, went-then, went-acts, went-stays, went-may, ends_err}
-use Rattle.qls_top.proofs.NewFile.{made_file, header_length, new_file_steps}
+use Rattle.qls_site.specs.Disk.{write_at, create_at, sync_at, relocate_at, all_written}
+use Rattle.qls_site.specs.Content.{Content, Tells, HasRange, HasFile, LacksFile, Acts, on_disk}
+use Rattle.qls_site.proofs.Told.{IfSome-after, HasFile-write, HasRange-create, HasFile-change}
+use Rattle.qls_top.specs.Steps.{MakesFile}
+use Rattle.qls_top.proofs.Chains.{goes-acts, goes-then, went-then, went-acts, went-stays, went-may, ends_err}
+use Rattle.qls_top.proofs.NewFile.{header_length, new_file_steps}
 use Rattle.qls_top.proofs.files.make_file.Goals as goal
 
 -- what each call asks, from what the one before told

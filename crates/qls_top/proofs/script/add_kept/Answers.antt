@@ -1,4 +1,4 @@
-use Rattle.std.proofs.Common.{◌≡◌, ◌+◌, ◌∙◌, refl, ap, length, take, arith}
+use Rattle.std.proofs.Common.{◌∙◌, ap, length, arith}
 use Rattle.qls_top.proofs.CutLines.{kept_whole, kept_front}
 use Rattle.qls_top.proofs.script.add_kept.Goals as goal
 

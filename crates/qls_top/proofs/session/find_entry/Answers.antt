@@ -1,10 +1,7 @@
-use Rattle.std.proofs.Common.{◌≡◌, ℕ, List, Bool, true, false, refl, ap, sym, subst, ◌∙◌, take, None, add-one, arith}
+use Rattle.std.proofs.Common.{◌≡◌, ℕ, List, Bool, true, false, sym, ◌∙◌, take, None, add-one}
 use Rattle.qls_model.specs.Bytes.{same}
 use Rattle.qls_top.specs.Table.{entry_named}
 use Rattle.qls_top.proofs.Tables.{find_here, find_more}
-use Rattle.qls_top.proofs.Blocks.{length-all}
-use Rattle.qls_top.proofs.Putting.{fits_put}
-use Rattle.qls_top.proofs.Machine.{queue_plain}
 use Rattle.qls_top.proofs.session.find_entry.Goals as goal
 
 -- the comparison of two slices, as one of the lists that they hold

@@ -1,4 +1,3 @@
-use Rattle.std.proofs.Common.{◌≡◌}
 use Rattle.qls_site.specs.Content.{Acts, on_answered}
 use Rattle.qls_top.proofs.Lines.{answer_refused}
 use Rattle.qls_top.proofs.session.send_text.Goals as goal

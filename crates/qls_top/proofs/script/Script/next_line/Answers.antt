@@ -1,6 +1,6 @@
-use Rattle.std.proofs.Common.{rules, ◌≡◌, ◌+◌, ◌≤◌, ◌<◌, ◌*◌, ◌-◌, Bool, eqb, length, take, [], Ok, Result, true, false, Some, None, Option, ℕ, List, ap, sym, ◌∙◌, refl, arith, subst}
-use Rattle.qls_top.specs.Cutting.{SoFar, TakesPart, Refills, CutsTold, Counted, measured}
-use Rattle.qls_top.proofs.CutLines.{line_ended, line_goes_on, line_is_last, kept_length, part_spent, rest_spent, counted_then}
+use Rattle.std.proofs.Common.{Bool, eqb, length, Ok, true, false, ℕ, List, ap, ◌∙◌, arith, subst}
+use Rattle.qls_top.specs.Cutting.{TakesPart, Refills, Counted}
+use Rattle.qls_top.proofs.CutLines.{line_ended, line_goes_on, line_is_last, kept_length, rest_spent, counted_then}
 use Rattle.qls_top.proofs.script.Script.next_line.Goals as goal
 
 pub returns-then-branch-clause-cut : goal.returns-then-branch-clause-cut

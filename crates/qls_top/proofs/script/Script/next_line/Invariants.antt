@@ -1,6 +1,5 @@
-use Rattle.std.proofs.Common.{Ok, true, ◌≡◌, ◌+◌, ◌≤◌, length, take, ℕ, ◌*◌}
-use Rattle.qls_site.specs.Content.{Rose}
-use Rattle.qls_top.specs.Cutting.{Cutter, measured, SoFar, Counted}
+use Rattle.std.proofs.Common.{Ok, true, ◌+◌, ◌≤◌, length}
+use Rattle.qls_top.specs.Cutting.{measured, SoFar, Counted}
 use Rattle.qls_top.proofs.script.Script.next_line.Given as goal
 
 abbrev pub invariant-loop-self : goal.invariant-loop-self

@@ -1,6 +1,6 @@
-use Rattle.std.proofs.Common.{◌≡◌, ℕ, List, ◌+◌, ◌-◌, ◌++◌, ◌∷◌, ◌∙◌, refl, ap, sym, subst, length, take, drop, arith, length-take}
+use Rattle.std.proofs.Common.{ℕ, List, ◌+◌, ◌-◌, ◌++◌, ◌∷◌, ◌∙◌, ap, sym, take, drop, arith, length-take}
 use Rattle.qls_top.proofs.CutLines.{rest_waiting}
-use Rattle.qls_top.specs.Cutting.{has_feed, kept_of_line, TakesPart}
+use Rattle.qls_top.specs.Cutting.{has_feed}
 use Rattle.qls_top.proofs.script.Script.take_part.Goals as goal
 
 pub returns-in_ok-add_kept-in-Some-clause-part : goal.returns-in_ok-add_kept-in-Some-clause-part

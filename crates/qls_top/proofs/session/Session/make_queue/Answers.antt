@@ -1,10 +1,10 @@
-use Rattle.std.proofs.Common.{◌≡◌, ◌+◌, ◌++◌, ◌∷◌, [], ℕ, List, Option, Some, None, Ok, refl, sym, ap, ◌∙◌, subst, length}
+use Rattle.std.proofs.Common.{◌≡◌, ◌+◌, ◌++◌, ◌∷◌, [], ℕ, List, Some, None, refl, sym, ap, ◌∙◌, subst, length}
 use Rattle.qls_model.specs.declared.machine.Command.{Command}
 use Rattle.qls_model.specs.declared.machine.Command.TheVariants as command
 use Rattle.qls_model.specs.declared.machine.Reply.{Reply}
 use Rattle.qls_model.specs.declared.machine.Reply.TheVariants.{Done}
 use Rattle.qls_model.specs.Machine.{MachineState, step}
-use Rattle.qls_site.specs.Content.{Content, Tells}
+use Rattle.qls_site.specs.Content.{Tells}
 use Rattle.qls_top.specs.declared.answer.Answer.TheVariants.{Plain}
 use Rattle.qls_top.specs.Sessions.{RunsCommand}
 use Rattle.qls_top.specs.Stored.{only_header}

@@ -1,4 +1,4 @@
-use Rattle.std.proofs.Common.{◌≡◌, ◌⊎◌, inl, inr, ◌+◌, ◌-◌, ◌*◌, ◌/◌, ◌%◌, ◌<◌, ◌≤◌, ◌++◌, ◌∷◌, [], ℕ, List, Option, Some, None, IfSome, Ok, refl, sym, ap, ◌∙◌, subst, length, take, get_or, arith}
+use Rattle.std.proofs.Common.{◌≡◌, ◌⊎◌, inl, inr, ◌+◌, ◌-◌, ◌*◌, ◌/◌, ◌%◌, ◌<◌, ℕ, List, Some, None, refl, sym, ap, ◌∙◌, subst, length, take, get_or, arith}
 use Rattle.std.specs.List.{slice_get, slice_set}
 use Rattle.std.specs.Vec.{with_item}
 use Rattle.qls_model.specs.declared.machine.Status.TheVariants.{Ready}
@@ -9,7 +9,7 @@ use Rattle.qls_model.specs.declared.machine.Command.TheVariants as command
 use Rattle.qls_model.specs.declared.machine.Reply.{Reply}
 use Rattle.qls_model.specs.declared.machine.Reply.TheVariants.{Number}
 use Rattle.qls_model.specs.Machine.{MachineState, step}
-use Rattle.qls_site.specs.Content.{Content, Tells, HasRange}
+use Rattle.qls_site.specs.Content.{Tells, HasRange}
 use Rattle.qls_top.specs.declared.answer.Answer.TheVariants.{Plain, Full}
 use Rattle.qls_top.specs.Answers.{blocks}
 use Rattle.qls_top.specs.Sessions.{RunsCommand}

@@ -1,4 +1,3 @@
-use Rattle.std.proofs.Common.{◌≡◌}
 use Rattle.qls_command.specs.Lines.{command_of}
 use Rattle.qls_top.specs.Answers.{built_line}
 use Rattle.qls_top.proofs.Lines.{line_ended, quiet_after}
