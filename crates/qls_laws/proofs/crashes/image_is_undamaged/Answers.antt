@@ -1,5 +1,5 @@
 use Rattle.qls_laws.proofs.Whole as laws
-use Rattle.qls_laws.proofs.AtRest.{quiet_is_undamaged}
+use Rattle.qls_laws.proofs.QuietDisk.{quiet_is_undamaged}
 use Rattle.qls_laws.proofs.crashes.image_is_undamaged.Goals as goal
 
 pub returns-clause-quiet : goal.returns-clause-quiet
