@@ -1,5 +1,5 @@
 //! Bytes and sequences, which contracts see as lists.
-use std::alloc::{AllocError, Global};
+use std::alloc::{AllocError, AllocFailed, Global};
 use std::marker::Model;
 
 /// Want of memory: a growth was refused. It is the one answer that no clause ties to a cause.
@@ -8,6 +8,13 @@ pub struct NoMemory;
 
 impl From<AllocError> for NoMemory {
     fn from(_error: AllocError) -> NoMemory {
+        NoMemory
+    }
+}
+
+/// What could not be stored is dropped.
+impl<T: Drop> From<AllocFailed<T>> for NoMemory {
+    fn from(_refused: AllocFailed<T>) -> NoMemory {
         NoMemory
     }
 }
