@@ -4,12 +4,12 @@ use Rattle.std.specs.List.{filter, filter_map, cons_option}
 use Rattle.std.specs.List.Sorted.{IsStrictlySortedBy}
 use Rattle.std.specs.declared.cmp.Ordering.{Ordering}
 use Rattle.std.proofs.lemmas.List.Kept.{IsStrictlySortedBy-filter}
-use Rattle.qls_model.specs.Bytes.{same}
+use Rattle.qls_model.specs.Bytes.{same, is_listed}
 use Rattle.qls_model.specs.declared.machine.Verdict.{Verdict}
 use Rattle.qls_model.specs.declared.machine.Verdict.TheVariants.{Commit, Abort, Doubt}
 use Rattle.qls_decide.specs.declared.End.{End}
-use Rattle.qls_decide.specs.Ends.{end_by, end_of, is_listed}
-use Rattle.qls_decide.proofs.Keys.{same_true}
+use Rattle.qls_decide.specs.Ends.{end_by, end_of}
+use Rattle.qls_model.proofs.XidKeys.{same_true}
 
 -- the ends of the xids, each by its verdict
 abbrev pub ends_by : (List ℕ → Verdict) → List (List ℕ) → List End

@@ -1,7 +1,7 @@
 -- The ends that settle the pending transactions of one queue.
-use Rattle.std.specs.Prelude.{ℕ, Bool, true, false, List, Option, Some, None, if◌then◌else◌}
-use Rattle.std.specs.List.{find, list_any}
-use Rattle.qls_model.specs.Bytes.{same}
+use Rattle.std.specs.Prelude.{ℕ, true, false, List, Option, Some, None, if◌then◌else◌}
+use Rattle.std.specs.List.{find}
+use Rattle.qls_model.specs.Bytes.{same, is_listed}
 use Rattle.qls_model.specs.declared.machine.Verdict.{Verdict}
 use Rattle.qls_model.specs.declared.machine.Verdict.TheVariants.{Commit, Abort, Doubt}
 use Rattle.qls_decide.specs.declared.ListEntry.{ListEntry}
@@ -13,9 +13,6 @@ abbrev pub end_by : Verdict → List ℕ → Option End
 end_by Commit x = Some (record { xid = x; commit = true })
 end_by Abort x = Some (record { xid = x; commit = false })
 end_by Doubt x = None
-
-abbrev pub is_listed : List ℕ → List (List ℕ) → Bool
-is_listed x xs = list_any (λ y. same x y) xs
 
 -- the end of x among the ends
 abbrev pub end_of : List ℕ → List End → Option End

@@ -4,9 +4,9 @@ ghost use Rattle.std.specs.List.Sorted.{IsStrictlySortedBy};
 ghost use Rattle.std.specs.Ordering.{nat_cmp};
 ghost use Rattle.std.specs.Cmp.Lexicographic.{slice_cmp};
 ghost use Rattle.std.specs.HashMap.{get as looked_up};
-ghost use Rattle.qls_model.specs.Bytes.{same};
+ghost use Rattle.qls_model.specs.Bytes.{same, is_listed};
 ghost use Rattle.qls_decide.specs.Entries.{entry_of, state_of};
-ghost use Rattle.qls_decide.specs.Ends.{end_by, end_of, is_listed, planned_end};
+ghost use Rattle.qls_decide.specs.Ends.{end_by, end_of, planned_end};
 
 use crate::{End, ListEntry, ListState, verdict_of};
 use qls_model::{NoMemory, Seq, Verdict, Xid};

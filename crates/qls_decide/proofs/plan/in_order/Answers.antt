@@ -2,9 +2,8 @@ use Rattle.std.proofs.Common.{◌≡◌, Bool, true, false, ◌||◌, take, refl
 use Rattle.std.specs.List.Sorted.{IsStrictlySortedBy}
 use Rattle.std.specs.BTreeSet.{insert_key}
 use Rattle.std.proofs.lemmas.List.Folds.{list_any_more}
-use Rattle.qls_model.specs.Bytes.{same}
-use Rattle.qls_decide.specs.Ends.{is_listed}
-use Rattle.qls_decide.proofs.Keys.{xid_cmp_is, listed-insert}
+use Rattle.qls_model.specs.Bytes.{same, is_listed}
+use Rattle.qls_model.proofs.XidKeys.{xid_cmp_is, listed-insert}
 use Rattle.qls_decide.proofs.plan.in_order.Goals as goal
 
 pub loop-xid-init : goal.loop-xid-init

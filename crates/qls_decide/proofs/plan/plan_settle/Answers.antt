@@ -5,9 +5,10 @@ use Rattle.std.specs.Ordering.{nat_cmp}
 use Rattle.std.specs.Cmp.Lexicographic.{slice_cmp}
 use Rattle.qls_decide.specs.declared.End.{End}
 use Rattle.qls_decide.specs.Entries.{verdict_by, verdict_for, entry_of, state_of}
-use Rattle.qls_decide.specs.Ends.{end_by, end_of, is_listed}
-use Rattle.qls_decide.proofs.Keys.{looked_up-as}
+use Rattle.qls_decide.specs.Ends.{end_by, end_of}
+use Rattle.qls_model.proofs.XidKeys.{looked_up-as}
 use Rattle.qls_decide.proofs.Planned.{ends_by, more_ends, ends_in_order, end_of-ends_by}
+use Rattle.qls_model.specs.Bytes.{is_listed}
 use Rattle.qls_decide.proofs.plan.plan_settle.Goals as goal
 
 pub loop-xid-preserved : goal.loop-xid-preserved

@@ -3,7 +3,7 @@ use Rattle.std.proofs.lemmas.Grind.{common_steps}
 use Rattle.qls_model.specs.Bytes.{same}
 use Rattle.qls_decide.specs.declared.ListEntry.{ListEntry}
 use Rattle.qls_decide.specs.Entries.{entry_of, state_of}
-use Rattle.qls_decide.proofs.Keys.{looked_up-insert}
+use Rattle.qls_model.proofs.XidKeys.{looked_up-insert}
 use Rattle.qls_decide.proofs.plan.states_by_xid.Goals as goal
 
 one_before : (es : List ListEntry) (at : ℕ) (e : ListEntry) → 0 < at → at - 1 < length es → e ≡ get_or es (at - 1) e → drop (at - 1) es ≡ e ∷ drop at es

@@ -7,9 +7,8 @@ use Rattle.std.specs.Cmp.Lexicographic.{slice_cmp, pointwise, bytes_decides}
 use Rattle.std.specs.BTreeSet.{insert_key}
 use Rattle.std.specs.HashMap.{HashMap, Updates, get_by, get as looked_up}
 use Rattle.std.proofs.lemmas.Map.Text.{is_eq-slice_cmp}
-use Rattle.qls_model.specs.Bytes.{same}
+use Rattle.qls_model.specs.Bytes.{same, is_listed}
 use Rattle.qls_model.proofs.XidOrder.{order_is_bytes, equality_is_bytes}
-use Rattle.qls_decide.specs.Ends.{is_listed}
 
 -- how the derived comparisons compare
 abbrev pub xid_cmp : List ℕ → List ℕ → Ordering
