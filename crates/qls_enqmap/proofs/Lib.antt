@@ -1,0 +1,4 @@
+pub mod Rising
+pub mod Writes
+pub mod Places
+pub mod Kept
