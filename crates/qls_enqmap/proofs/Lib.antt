@@ -1,4 +1,5 @@
 pub mod Rising
 pub mod Writes
-pub mod Places
+pub mod Ends
 pub mod Kept
+pub mod Counted

@@ -51,6 +51,12 @@ abbrev pub least_file : List Held → Option ℕ
 least_file [] = None
 least_file (h ∷ hs) = Some (least_from h.file hs)
 
+-- the lesser of two files, where there are two
+abbrev pub lesser : Option ℕ → Option ℕ → Option ℕ
+lesser None b = b
+lesser (Some a) None = Some a
+lesser (Some a) (Some b) = Some (min a b)
+
 -- each id is below this one
 abbrev pub AllBelow : ℕ → List Held → Type 0
 AllBelow rid [] = Unit {0}

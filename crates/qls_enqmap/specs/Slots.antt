@@ -68,6 +68,20 @@ abbrev pub slot_file : Option Held → ℕ
 slot_file None = 0
 slot_file (Some h) = h.file
 
+-- the record, its file at a place
+abbrev pub record_in : Option (ℕ × Option Held) → Option Held
+record_in None = None
+record_in (Some e) = e.1
+
+abbrev pub file_in : Option Held → Option ℕ
+file_in None = None
+file_in (Some h) = Some h.file
+
+-- a place before which there are n records, and at which there is one if any follow
+pub record IsPlace (es : Slots) (n : ℕ) (place : ℕ) : Type 0 where
+  pub before : length (held_in (take place es)) ≡ n
+  pub first : first_of (drop place (occupied es)) ≡ true
+
 -- what holds of the slots, the number of records, the place of the first record, and whether the files are known to rise
 pub record IsKept (es : Slots) (count : ℕ) (start : ℕ) (rising : Bool) : Type 0 where
   pub rises : RisesFrom 0 es

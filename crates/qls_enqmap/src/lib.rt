@@ -2,6 +2,7 @@
 #![tactic(auto)]
 
 mod map;
+mod places;
 mod slots;
 
 pub use map::EnqMap;

@@ -1,4 +1,5 @@
 // The map of held records.
+use crate::places::{file_at_place, held_at_place, least_file_of, place_of};
 use crate::slots::{find, put_last, set_status, still_rising, take_out, tidy};
 use crate::{EnqFault, Held};
 use indexmap::IndexMap;
@@ -109,6 +110,29 @@ impl EnqMap {
         ensures found { option_copied result ≡ held_at rid self.now }
     {
         find(&self.slots, rid)
+    }
+
+    /// The record at a place by rising id, counted from 0; None exactly where there is none.
+    pub fn at(&self, at: usize) -> Option<&Held>
+        ensures there { option_copied result ≡ slice_get self.now at }
+    {
+        if at >= self.count {
+            return None;
+        }
+        let place = place_of(&self.slots, self.count, self.start, at);
+        held_at_place(&self.slots, place)
+    }
+
+    /// The least file in which a record starts; None exactly where there is no record. It takes the same time whatever
+    /// the map holds, where the files don't fall along the ids; else it goes over all records.
+    pub fn first_file(&self) -> Option<u64>
+        ensures least { result ≡ least_file self.now }
+    {
+        if self.rising {
+            file_at_place(&self.slots, self.start)
+        } else {
+            least_file_of(&self.slots)
+        }
     }
 }
 

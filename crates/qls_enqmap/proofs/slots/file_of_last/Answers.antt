@@ -1,5 +1,5 @@
 use Rattle.std.proofs.Common.{◌≡◌, ◌∙◌}
-use Rattle.qls_enqmap.proofs.Places.{file_of_last, no_file}
+use Rattle.qls_enqmap.proofs.Ends.{file_of_last, no_file}
 use Rattle.qls_enqmap.proofs.slots.file_of_last.Goals as goal
 
 pub returns-in-Some : goal.returns-in-Some

@@ -1,5 +1,5 @@
 use Rattle.std.proofs.Common.{◌≡◌, not, ap, ◌∙◌}
-use Rattle.qls_enqmap.proofs.Places.{flip, first_at}
+use Rattle.qls_enqmap.proofs.Ends.{flip, first_at}
 use Rattle.qls_enqmap.proofs.slots.is_hole.Goals as goal
 
 pub returns-in-Some : goal.returns-in-Some

@@ -1,5 +1,5 @@
 use Rattle.std.proofs.Common.{◌≡◌, not, ap, ◌∙◌}
-use Rattle.qls_enqmap.proofs.Places.{flip, last_at}
+use Rattle.qls_enqmap.proofs.Ends.{flip, last_at}
 use Rattle.qls_enqmap.proofs.slots.last_is_hole.Goals as goal
 
 pub returns-in-Some : goal.returns-in-Some

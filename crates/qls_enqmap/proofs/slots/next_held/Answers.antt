@@ -1,5 +1,5 @@
 use Rattle.std.proofs.Common.{◌≡◌, ◌∙◌, ◌+◌, sym, Bool, true, false, not, refl, arith}
-use Rattle.qls_enqmap.proofs.Places.{Passes, passes}
+use Rattle.qls_enqmap.proofs.Ends.{Passes, passes}
 use Rattle.qls_enqmap.proofs.slots.next_held.Goals as goal
 
 not_true : (b : Bool) → true ≡ not b → b ≡ false

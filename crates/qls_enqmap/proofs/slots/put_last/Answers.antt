@@ -1,6 +1,6 @@
 use Rattle.std.proofs.Common.{◌≡◌, nat_eq, Some, ◌∙◌}
 use Rattle.indexmap.proofs.CallerLemmas.{insert_entry-new}
-use Rattle.qls_enqmap.proofs.Places.{absent_above}
+use Rattle.qls_enqmap.proofs.Ends.{absent_above}
 use Rattle.qls_enqmap.proofs.slots.put_last.Goals as goal
 
 pub returns-clause-put : goal.returns-clause-put

@@ -1,6 +1,6 @@
 use Rattle.std.proofs.Common.{◌≡◌, ap, sym, subst, true, ◌∙◌}
 use Rattle.qls_enqmap.specs.Slots.{held_in, occupied, first_of, last_of, RisesFrom}
-use Rattle.qls_enqmap.proofs.Places.{held-closed, rises-closed, first-closed, last-closed}
+use Rattle.qls_enqmap.proofs.Ends.{held-closed, rises-closed, first-closed, last-closed}
 use Rattle.qls_enqmap.proofs.slots.tidy.Goals as goal
 
 pub returns-then-len-count-clause-held : goal.returns-then-len-count-clause-held

@@ -1,6 +1,6 @@
 use Rattle.std.proofs.Common.{◌≡◌, ◌∙◌, sym, Bool, true, false, not, refl}
 use Rattle.qls_enqmap.specs.Slots.{occupied, last_of}
-use Rattle.qls_enqmap.proofs.Places.{Trims, trims}
+use Rattle.qls_enqmap.proofs.Ends.{Trims, trims}
 use Rattle.qls_enqmap.proofs.slots.trim_end.Goals as goal
 
 not_true : (b : Bool) → true ≡ not b → b ≡ false
