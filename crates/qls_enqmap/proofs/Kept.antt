@@ -4,7 +4,7 @@ use Rattle.std.specs.List.{filter, cons_option}
 use Rattle.std.proofs.lemmas.List.Elements.{filter_map-append}
 use Rattle.qls_enqmap.specs.declared.Held.{Held}
 use Rattle.qls_model.specs.declared.machine.Status.{Status}
-use Rattle.qls_enqmap.specs.Records.{AllBelow, with_status, without}
+use Rattle.qls_enqmap.specs.Records.{AllBelow, RidsFrom, with_status, without}
 use Rattle.qls_enqmap.proofs.Rising.{files_status, files_without}
 use Rattle.qls_enqmap.specs.Slots.{Slots, held_in, occupied, none_of, first_of, last_of, last_file, HasRid, RisesFrom, RidsBelow, FilesRise, IsKept}
 
@@ -136,3 +136,17 @@ kept_less rid es us vs count less start next rising k left fewer n same rises wi
   last = last;
   files = λ t. subst (λ hs. FilesRise 0 hs) (sym (same ∙ left)) (files_without 0 rid (held_in es) (k.files t));
 }
+
+-- ---- the ids rise
+
+rids_by : (n k : ℕ) (v : Option Held) (hs : List Held) → n ≤ k → HasRid k v → RidsFrom (k + 1) hs → RidsFrom n (cons_option v hs)
+rids_by n k None hs l h r = rids_later n (k + 1) hs (omega arith) r
+    where
+      rids_later : (m n : ℕ) (hs : List Held) → m ≤ n → RidsFrom n hs → RidsFrom m hs
+      rids_later m n [] l r = tt
+      rids_later m n (h ∷ hs) l r = (omega (arith, r.0), r.1)
+rids_by n k (Some g) hs l h r = (subst (λ m. n ≤ m) (sym h) l, subst (λ m. RidsFrom (m + 1) hs) (sym h) r)
+
+pub rids_rise : (n : ℕ) (es : Slots) → RisesFrom n es → RidsFrom n (held_in es)
+rids_rise n [] r = tt
+rids_rise n (e ∷ es) r = rids_by n e.0 e.1 (held_in es) r.0 r.1 (rids_rise (e.0 + 1) es r.2)

@@ -1,5 +1,5 @@
 -- Held records by rising record id, and what each call does to them.
-use Rattle.std.specs.Prelude.{◌≡◌, ℕ, ◌<◌, Bool, not, List, [], ◌∷◌, map, Option, Some, None, Result, Ok, Err, if◌then◌else◌, ◌==◌, min}
+use Rattle.std.specs.Prelude.{◌≡◌, ℕ, ◌+◌, ◌<◌, ◌≤◌, Bool, not, List, [], ◌∷◌, map, Option, Some, None, Result, Ok, Err, if◌then◌else◌, ◌==◌, min}
 use Rattle.std.specs.List.{filter, find}
 use Rattle.qls_model.specs.declared.machine.Status.{Status}
 use Rattle.qls_model.specs.declared.machine.Status.TheVariants.{Ready, Coming, Going}
@@ -61,3 +61,11 @@ lesser (Some a) (Some b) = Some (min a b)
 abbrev pub AllBelow : ℕ → List Held → Type 0
 AllBelow rid [] = Unit {0}
 AllBelow rid (h ∷ hs) = (h.rid < rid) × AllBelow rid hs
+
+-- the ids rise
+abbrev pub RidsFrom : ℕ → List Held → Type 0
+RidsFrom rid [] = Unit {0}
+RidsFrom rid (h ∷ hs) = (rid ≤ h.rid) × RidsFrom (h.rid + 1) hs
+
+abbrev pub RidsRise : List Held → Type 0
+RidsRise hs = RidsFrom 0 hs

@@ -34,7 +34,7 @@ impl Model for EnqMap {
 impl EnqMap {
     ghost use Rattle.std.specs.Prelude.{◌≡◌, ◌++◌, ◌∷◌, [], IfOk, IfErr, Option, slice_get, option_copied};
     ghost use Rattle.qls_model.specs.declared.machine.Status.TheVariants.{Ready, Going};
-    ghost use Rattle.qls_enqmap.specs.Records.{held_at, with_status, without, lock_answer, unlock_answer, removed, least_file, AllBelow};
+    ghost use Rattle.qls_enqmap.specs.Records.{held_at, with_status, without, lock_answer, unlock_answer, removed, least_file, AllBelow, RidsRise};
 
     /// No record.
     pub fn new(alloc: Global) -> EnqMap
@@ -54,6 +54,7 @@ impl EnqMap {
         requires above { AllBelow held.rid self.old }
         ensures inserted { IfOk result (λ _. self.new ≡ self.old ++ held ∷ []) }
         ensures refused { IfErr result (λ _. self.new ≡ self.old) }
+        ensures rising { RidsRise self.new }
     {
         let rising = still_rising(&self.slots, self.rising, held.file);
         put_last(&mut self.slots, held)?;
@@ -68,6 +69,7 @@ impl EnqMap {
         ensures answer { result ≡ lock_answer (held_at rid self.old) }
         ensures locked { IfOk result (λ _. self.new ≡ with_status rid (Going xid) self.old) }
         ensures refused { IfErr result (λ _. self.new ≡ self.old) }
+        ensures rising { RidsRise self.new }
     {
         let answer = may_lock(find(&self.slots, rid));
         if answer.is_ok() {
@@ -81,6 +83,7 @@ impl EnqMap {
         ensures answer { result ≡ unlock_answer (held_at rid self.old) }
         ensures unlocked { IfOk result (λ _. self.new ≡ with_status rid Ready self.old) }
         ensures refused { IfErr result (λ _. self.new ≡ self.old) }
+        ensures rising { RidsRise self.new }
     {
         let answer = may_unlock(find(&self.slots, rid));
         if answer.is_ok() {
@@ -94,6 +97,7 @@ impl EnqMap {
         ensures answer { result ≡ removed (held_at rid self.old) }
         ensures left { IfOk result (λ _. self.new ≡ without rid self.old) }
         ensures refused { IfErr result (λ _. self.new ≡ self.old) }
+        ensures rising { RidsRise self.new }
     {
         match take_out(&mut self.slots, rid) {
             Some(held) => {
@@ -108,6 +112,7 @@ impl EnqMap {
     /// The record of this id; None exactly where there is none.
     pub fn get(&self, rid: u64) -> Option<&Held>
         ensures found { option_copied result ≡ held_at rid self.now }
+        ensures rising { RidsRise self.now }
     {
         find(&self.slots, rid)
     }
