@@ -52,7 +52,7 @@ without_by : (b : Bool) (h : Held) (hs gs : List Held) (rid : ℕ) → cond b (S
 without_by true h hs gs rid n i = absurd (cc)
 without_by false h hs gs rid n i = ap (λ l. h ∷ l) (i n)
 
-without_none : (rid : ℕ) (hs : List Held) → held_at rid hs ≡ None → without rid hs ≡ hs
+pub without_none : (rid : ℕ) (hs : List Held) → held_at rid hs ≡ None → without rid hs ≡ hs
 without_none rid [] n = refl
 without_none rid (h ∷ hs) n = without_by (h.rid == rid) h hs (without rid hs) rid n (λ m. without_none rid hs m)
 

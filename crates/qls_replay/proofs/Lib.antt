@@ -1,0 +1,5 @@
+pub mod EndLaws
+pub mod Takes
+pub mod Agreeing
+pub mod Decided
+pub mod Steps
