@@ -3,3 +3,4 @@ pub mod Takes
 pub mod Agreeing
 pub mod Decided
 pub mod Steps
+pub mod Placing
