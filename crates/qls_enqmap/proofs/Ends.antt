@@ -1,9 +1,9 @@
 -- Slots by their places: the last, the one at an index, and what is left when holes go.
-use Rattle.std.proofs.Common.{◌≡◌, ℕ, zero, suc, ◌+◌, ◌-◌, ◌<◌, ◌≤◌, Bool, true, false, not, ◌&&◌, nat_eq, cond, List, [], ◌∷◌, ◌++◌, length, take, drop, slice_get, Option, Some, None, is_some, is_none, option_to_list, refl, ap, sym, subst, ◌∙◌, append-nil, arith}
+use Rattle.std.proofs.Common.{◌≡◌, ℕ, zero, suc, ◌+◌, ◌-◌, ◌<◌, ◌≤◌, Bool, true, false, not, ◌&&◌, nat_eq, cond, List, [], ◌∷◌, ◌++◌, length, take, drop, slice_get, Option, Some, None, is_some, is_none, option_to_list, refl, ap, sym, subst, ◌∙◌, append-nil, length-append, arith}
 use Rattle.std.specs.List.{filter, cons_option}
 use Rattle.std.specs.Map.{lookup}
 use Rattle.qls_enqmap.specs.declared.Held.{Held}
-use Rattle.qls_enqmap.specs.Slots.{Slots, held_in, occupied, none_of, first_of, last_of, all_of, last_file, slot_file, HasRid, RisesFrom, RidsBelow}
+use Rattle.qls_enqmap.specs.Slots.{Slots, held_in, occupied, none_of, first_of, last_of, all_of, last_file, slot_file, before, HasRid, RisesFrom, RidsBelow}
 
 pub flip : (a b : Bool) → a ≡ not b → b ≡ not a
 flip true true h = absurd (cc)
@@ -88,9 +88,9 @@ pub record Passes (es : Slots) (at next : ℕ) : Type 0 where
   pub same : held_in (take next es) ≡ held_in (take at es)
   pub holes : none_of (take at (occupied es)) ≡ true → none_of (take next (occupied es)) ≡ true
 
-hole_first : (v : Option Held) (k : ℕ) (es : Slots) → is_some v ≡ false → Passes ((k, v) ∷ es) zero (suc zero)
-hole_first None k es h = record { same = refl; holes = λ n. refl }
-hole_first (Some g) k es h = absurd (cc)
+hole_passed : (v : Option Held) (k : ℕ) (es : Slots) → is_some v ≡ false → Passes ((k, v) ∷ es) zero (suc zero)
+hole_passed None k es h = record { same = refl; holes = λ n. refl }
+hole_passed (Some g) k es h = absurd (cc)
 
 pass_more : (v : Option Held) (k : ℕ) (es : Slots) (at : ℕ) → Passes es at (suc at) → Passes ((k, v) ∷ es) (suc at) (suc (suc at))
 pass_more None k es at p = record { same = p.same; holes = p.holes }
@@ -102,7 +102,7 @@ none_left (suc at) h = cc
 
 passed : (es : Slots) (at : ℕ) → first_of (drop at (occupied es)) ≡ false → Passes es at (suc at)
 passed [] at h = absurd (none_left at h)
-passed (e ∷ es) zero h = hole_first e.1 e.0 es h
+passed (e ∷ es) zero h = hole_passed e.1 e.0 es h
 passed (e ∷ es) (suc at) h = pass_more e.1 e.0 es at (passed es at h)
 
 pub passes : (es : Slots) (at next : ℕ) → next ≡ at + 1 → first_of (drop at (occupied es)) ≡ false → Passes es at next
@@ -111,6 +111,8 @@ passes es at next e h = subst (λ n. Passes es at n) (let q : suc at ≡ next = 
 -- ---- the last slot goes
 
 pub record Trims (es us : Slots) : Type 0 where
+  pub before : (n : ℕ) → before us n ≡ before es n
+  pub shorter : length us ≤ length es
   pub held : held_in us ≡ held_in es
   pub rises : RisesFrom 0 es → RisesFrom 0 us
   pub holes : (n : ℕ) → none_of (take n (occupied es)) ≡ true → none_of (take n (occupied us)) ≡ true
@@ -138,15 +140,32 @@ none_front zero us vs h = refl
 none_front (suc n) [] vs h = refl
 none_front (suc n) (u ∷ us) vs h = none_cons (is_some u.1) (take n (occupied (us ++ vs))) (take n (occupied us)) (λ g. none_front n us vs g) h
 
+hole_first : (v : Option Held) (k n : ℕ) → is_some v ≡ false → before [] n ≡ before ((k, v) ∷ []) n
+hole_first None k zero h = refl
+hole_first None k (suc zero) h = refl
+hole_first None k (suc (suc n)) h = refl
+hole_first (Some g) k n h = absurd (cc)
+
+before_by : (v : Option Held) (hs gs : List Held) → length hs ≡ length gs → length (cons_option v hs) ≡ length (cons_option v gs)
+before_by None hs gs e = e
+before_by (Some g) hs gs e = ap suc e
+
+before_hole : (us : Slots) (k : ℕ) (v : Option Held) → is_some v ≡ false → (n : ℕ) → before us n ≡ before (us ++ (k, v) ∷ []) n
+before_hole us k v h zero = refl
+before_hole [] k v h (suc n) = hole_first v k (suc n) h
+before_hole (u ∷ us) k v h (suc n) = before_by u.1 (held_in (take n us)) (held_in (take n (us ++ (k, v) ∷ []))) (before_hole us k v h n)
+
 trims_last : (us : Slots) (k : ℕ) (v : Option Held) → is_some v ≡ false → Trims (us ++ (k, v) ∷ []) us
 trims_last us k v h = record {
+  before = λ n. before_hole us k v h n;
+  shorter = omega (arith, length-append us ((k, v) ∷ []));
   held = sym (held_append us k v h);
   rises = λ r. rises_front 0 us ((k, v) ∷ []) r;
   holes = λ n g. none_front n us ((k, v) ∷ []) g;
 }
 
 same_trims : (es : Slots) → Trims es es
-same_trims es = record { held = refl; rises = λ r. r; holes = λ n g. g }
+same_trims es = record { before = λ n. refl; shorter = omega arith; held = refl; rises = λ r. r; holes = λ n g. g }
 
 pub trims : (es us : Slots) (o : Option (ℕ × Option Held)) → es ≡ us ++ option_to_list o → last_of (occupied es) ≡ false → Trims es us
 trims es us None e h = subst (λ x. Trims x us) (sym (e ∙ append-nil us)) (same_trims us)
@@ -192,9 +211,17 @@ closed_all : (v : Option Held) (k : ℕ) (es : Slots) → all_of (occupied (clos
 closed_all None k es h = h
 closed_all (Some g) k es h = h
 
-all-closed : (es : Slots) → all_of (occupied (closed es)) ≡ true
+pub all-closed : (es : Slots) → all_of (occupied (closed es)) ≡ true
 all-closed [] = refl
 all-closed (e ∷ es) = closed_all e.1 e.0 es (all-closed es)
+
+closed_fewer : (v : Option Held) (k n : ℕ) (es : Slots) → length (closed es) ≤ n → length (cond (is_some v) ((k, v) ∷ closed es) (closed es)) ≤ suc n
+closed_fewer None k n es l = omega arith
+closed_fewer (Some g) k n es l = omega arith
+
+pub shorter-closed : (es : Slots) → length (closed es) ≤ length es
+shorter-closed [] = omega arith
+shorter-closed (e ∷ es) = closed_fewer e.1 e.0 (length es) es (shorter-closed es)
 
 first_of-all : (bs : List Bool) → all_of bs ≡ true → first_of bs ≡ true
 first_of-all [] h = refl

@@ -6,7 +6,8 @@ use Rattle.qls_enqmap.specs.declared.Held.{Held}
 use Rattle.qls_model.specs.declared.machine.Status.{Status}
 use Rattle.qls_enqmap.specs.Records.{AllBelow, RidsFrom, with_status, without}
 use Rattle.qls_enqmap.proofs.Rising.{files_status, files_without}
-use Rattle.qls_enqmap.specs.Slots.{Slots, held_in, occupied, none_of, first_of, last_of, last_file, HasRid, RisesFrom, RidsBelow, FilesRise, IsKept}
+use Rattle.qls_enqmap.specs.Slots.{Slots, held_in, occupied, none_of, first_of, last_of, last_file, HasRid, RisesFrom, RidsBelow, FilesRise, before, AreCounted, Gains, IsKept}
+use Rattle.qls_enqmap.specs.declared.blocks.Blocks.{Blocks}
 
 -- ---- files
 
@@ -73,12 +74,13 @@ held_append es h = filter_map-append (λ e. e.1) es ((h.rid, Some h) ∷ [])
 count_more : (hs : List Held) (h : Held) (count : ℕ) → count ≡ length hs → count + 1 ≡ length (hs ++ h ∷ [])
 count_more hs h count e = omega (arith, length-append hs (h ∷ []))
 
-pub kept_more : (es us : Slots) (h : Held) (count start : ℕ) (rising more : Bool) → IsKept es count start rising → RidsBelow h.rid es
-    → us ≡ es ++ (h.rid, Some h) ∷ [] → (more ≡ true → FilesRise 0 (held_in es ++ h ∷ [])) → IsKept us (count + 1) start more
-kept_more es us h count start rising more k b e f =
+pub kept_more : (es us : Slots) (blocks later : Blocks) (h : Held) (count start : ℕ) (rising more : Bool) → IsKept es blocks count start rising → RidsBelow h.rid es
+    → us ≡ es ++ (h.rid, Some h) ∷ [] → AreCounted later us → (more ≡ true → FilesRise 0 (held_in es ++ h ∷ [])) → IsKept us later (count + 1) start more
+kept_more es us blocks later h count start rising more k b e a f =
     let bits = occupied_append es h.rid h in
     let l : start ≤ length (occupied es) = omega (arith, long_occupied es, k.within) in
-    subst (λ x. IsKept x (count + 1) start more) (sym e) (record {
+    subst (λ x. AreCounted later x → IsKept x later (count + 1) start more) (sym e) (λ d. record {
+      blocks_counted = d;
       rises = rises_append 0 h es (omega arith) b k.rises;
       counted = count_more (held_in es) h count k.counted ∙ sym (ap length (held_append es h));
       within = omega (arith, k.within, length-append es ((h.rid, Some h) ∷ []));
@@ -86,7 +88,7 @@ kept_more es us h count start rising more k b e f =
       first = subst (λ bs. first_of (drop start bs) ≡ true) (sym bits) (first_more start (occupied es) l k.first);
       last = subst (λ bs. last_of bs ≡ true) (sym bits) (last_more (occupied es));
       files = λ t. subst (λ hs. FilesRise 0 hs) (sym (held_append es h)) (f t);
-    })
+    }) a
 
 pub few : (es : Slots) → length (held_in es) ≤ length es
 few [] = omega arith
@@ -98,9 +100,10 @@ few (e ∷ es) = few_by e.1 (held_in es) (length es) (few es)
 
 -- ---- another status
 
-pub kept_status : (es us : Slots) (count start : ℕ) (rising : Bool) → IsKept es count start rising → RisesFrom 0 us → occupied us ≡ occupied es
-    → length us ≡ length es → count ≡ length (held_in us) → (FilesRise 0 (held_in es) → FilesRise 0 (held_in us)) → IsKept us count start rising
-kept_status es us count start rising k r o l n f = record {
+pub kept_status : (es us : Slots) (blocks : Blocks) (count start : ℕ) (rising : Bool) → IsKept es blocks count start rising → AreCounted blocks us → RisesFrom 0 us → occupied us ≡ occupied es
+    → length us ≡ length es → count ≡ length (held_in us) → (FilesRise 0 (held_in es) → FilesRise 0 (held_in us)) → IsKept us blocks count start rising
+kept_status es us blocks count start rising k a r o l n f = record {
+  blocks_counted = a;
   rises = r;
   counted = n;
   within = omega (arith, k.within);
@@ -123,11 +126,12 @@ files_set rid s es us e f = subst (λ hs. FilesRise 0 hs) (sym e) (files_status 
 -- ---- a record goes out
 
 -- the slots after one went out, and after they were put in order
-pub kept_less : (rid : ℕ) (es us vs : Slots) (count less start next : ℕ) (rising : Bool) → IsKept es count start rising
+pub kept_less : (rid : ℕ) (es us vs : Slots) (blocks later : Blocks) (count less start next : ℕ) (rising : Bool) → IsKept es blocks count start rising → AreCounted later vs
     → held_in us ≡ without rid (held_in es) → length (held_in us) + 1 ≡ length (held_in es) → count ≡ less + 1
     → held_in vs ≡ held_in us → RisesFrom 0 vs → next ≤ length vs → none_of (take next (occupied vs)) ≡ true → first_of (drop next (occupied vs)) ≡ true → last_of (occupied vs) ≡ true
-    → IsKept vs less next rising
-kept_less rid es us vs count less start next rising k left fewer n same rises within holes first last = record {
+    → IsKept vs later less next rising
+kept_less rid es us vs blocks later count less start next rising k a left fewer n same rises within holes first last = record {
+  blocks_counted = a;
   rises = rises;
   counted = let c : less ≡ length (held_in us) = omega (arith, k.counted) in c ∙ sym (ap length same);
   within = within;

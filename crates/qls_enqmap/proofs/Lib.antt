@@ -3,3 +3,4 @@ pub mod Writes
 pub mod Ends
 pub mod Kept
 pub mod Counted
+pub mod Blocking

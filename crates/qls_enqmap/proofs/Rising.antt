@@ -1,7 +1,7 @@
 -- Slots by rising id: what a look-up finds, and what a change of one slot changes.
 use Rattle.std.proofs.Common.{◌≡◌, ℕ, zero, suc, ◌+◌, ◌<◌, ◌≤◌, Bool, true, false, not, ◌==◌, nat_eq, cond, List, [], ◌∷◌, ◌++◌, map, length, take, drop, slice_get, Option, Some, None, is_some, refl, ap, sym, subst, ◌∙◌, arith}
 use Rattle.std.specs.List.{filter, filter_map, find, cons_option}
-use Rattle.std.specs.Map.{lookup, set_value}
+use Rattle.std.specs.Map.{lookup, lookup_key, set_value}
 use Rattle.qls_model.specs.declared.machine.Status.{Status}
 use Rattle.qls_enqmap.specs.declared.Held.{Held}
 use Rattle.qls_enqmap.specs.Records.{held_at, with_status_if, with_status, without}
@@ -216,3 +216,12 @@ without_by false file h hs gs l r i = (l, i r)
 pub files_without : (file rid : ℕ) (hs : List Held) → FilesRise file hs → FilesRise file (without rid hs)
 files_without file rid [] r = tt
 files_without file rid (h ∷ hs) r = without_by (h.rid == rid) file h hs (without rid hs) r.0 r.1 (λ q. files_without h.file rid hs q)
+
+key_by : (b : Bool) (rid k e : ℕ) (o : Option ℕ) → b ≡ nat_eq rid e → Some k ≡ cond b (Some e) o → (Some k ≡ o → k ≡ rid) → k ≡ rid
+key_by true rid k e o b h i = let q : k ≡ e = (cc) in q ∙ sym (same_nat rid e b)
+key_by false rid k e o b h i = i h
+
+-- a key that is found is the id
+pub key_found : (rid k : ℕ) (es : Slots) → Some k ≡ lookup_key (nat_eq rid) es → k ≡ rid
+key_found rid k [] h = absurd (cc)
+key_found rid k (e ∷ es) h = key_by (nat_eq rid e.0) rid k e.0 (lookup_key (nat_eq rid) es) refl h (λ g. key_found rid k es g)

@@ -1,12 +1,13 @@
 -- The slots after one was written.
-use Rattle.std.proofs.Common.{◌≡◌, ℕ, suc, ◌+◌, Bool, true, false, not, ◌==◌, nat_eq, cond, List, [], ◌∷◌, length, take, Option, Some, None, is_some, IfNone, refl, ap, sym, subst, ◌∙◌, arith}
+use Rattle.std.proofs.Common.{◌≡◌, ℕ, suc, ◌+◌, Bool, true, false, not, ◌==◌, nat_eq, cond, List, [], ◌∷◌, length, take, Option, Some, None, is_some, IfNone, IfSome, refl, ap, sym, subst, ◌∙◌, arith}
 use Rattle.std.specs.Map.{lookup, set_value}
 use Rattle.std.proofs.lemmas.Map.{length-set_value}
 use Rattle.std.proofs.lemmas.Map.Steps.{set_value_same}
 use Rattle.qls_model.specs.declared.machine.Status.{Status}
 use Rattle.qls_enqmap.specs.declared.Held.{Held}
 use Rattle.qls_enqmap.specs.Records.{held_at, with_status, without}
-use Rattle.qls_enqmap.specs.Slots.{Slots, held_in, occupied, none_of, restatus, HasRid, RisesFrom}
+use Rattle.qls_enqmap.specs.Slots.{Slots, held_in, occupied, none_of, restatus, HasRid, RisesFrom, before, IsSlotOf, Loses}
+use Rattle.qls_enqmap.proofs.Blocking.{before_same, loses_slot}
 use Rattle.qls_enqmap.proofs.Rising.{flat, found, found_rid, emptied, status_set, status_none, rises_set, occupied_set, holes_set, fewer_set}
 
 -- ---- a status is written
@@ -16,9 +17,10 @@ pub record AfterStatus (rid : ℕ) (s : Status) (es us : Slots) : Type 0 where
   pub rises : RisesFrom 0 us
   pub occupied : occupied us ≡ occupied es
   pub long : length us ≡ length es
+  pub before : (n : ℕ) → before us n ≡ before es n
 
 unchanged : (rid : ℕ) (s : Status) (es : Slots) → RisesFrom 0 es → held_at rid (held_in es) ≡ None → AfterStatus rid s es es
-unchanged rid s es r n = record { set = sym (status_none rid s (held_in es) n); rises = r; occupied = refl; long = refl }
+unchanged rid s es r n = record { set = sym (status_none rid s (held_in es) n); rises = r; occupied = refl; long = refl; before = λ m. refl }
 
 pub no_status : (rid : ℕ) (s : Status) (es us : Slots) → RisesFrom 0 es → None ≡ lookup (nat_eq rid) es → us ≡ es → AfterStatus rid s es us
 no_status rid s es us r l u = subst (λ x. AfterStatus rid s es x) (sym u) (unchanged rid s es r (found rid 0 es r ∙ ap flat (sym l)))
@@ -35,6 +37,7 @@ status_written rid s (Some h) w es us r l e u =
       rises = rises_set rid 0 (Some (record h { status = s })) es (found_rid rid 0 h es r (sym l)) r;
       occupied = occupied_set (nat_eq rid) (record h { status = s }) h es (sym l);
       long = length-set_value (nat_eq rid) es (Some (record h { status = s }));
+      before = λ n. before_same (set_value (nat_eq rid) es (Some (record h { status = s }))) es n (occupied_set (nat_eq rid) (record h { status = s }) h es (sym l));
     })
 
 -- ---- a record is taken out
@@ -46,6 +49,7 @@ pub record AfterTake (rid : ℕ) (o : Option Held) (es us : Slots) : Type 0 wher
   pub holes : (n : ℕ) → none_of (take n (occupied es)) ≡ true → none_of (take n (occupied us)) ≡ true
   pub long : length us ≡ length es
   pub unknown : IfNone o (us ≡ es)
+  pub loses : IfSome o (λ _. (p : ℕ) → IsSlotOf es p rid → Loses es us p)
   pub fewer : length (held_in us) + cond (is_some o) 1 0 ≡ length (held_in es)
 
 without_by : (b : Bool) (h : Held) (hs gs : List Held) (rid : ℕ) → cond b (Some h) (held_at rid hs) ≡ None → (held_at rid hs ≡ None → gs ≡ hs) → cond (not b) (h ∷ gs) gs ≡ h ∷ hs
@@ -64,6 +68,7 @@ nothing_taken rid es r n = record {
   holes = λ k h. h;
   long = refl;
   unknown = refl;
+  loses = tt;
   fewer = omega arith;
 }
 
@@ -84,5 +89,6 @@ taken_out rid (Some h) w es us r l e u =
       holes = λ n k. holes_set (nat_eq rid) n es k;
       long = length-set_value (nat_eq rid) es None;
       unknown = tt;
+      loses = loses_slot rid h es (set_value (nat_eq rid) es None) r (sym l) refl;
       fewer = omega (arith, fewer_set (nat_eq rid) h es (sym l));
     })

@@ -1,8 +1,9 @@
 -- Slots by rising record id: each has a record, or is a hole where one went out.
-use Rattle.std.specs.Prelude.{◌≡◌, ℕ, ◌+◌, ◌<◌, ◌≤◌, Bool, true, not, ◌&&◌, List, [], ◌∷◌, map, Option, Some, None, is_some, length, take, drop}
+use Rattle.std.specs.Prelude.{◌≡◌, ℕ, ◌+◌, ◌*◌, ◌<◌, ◌≤◌, nat_lt, slice_get, slice_index_or, if◌then◌else◌, Bool, true, not, ◌&&◌, List, [], ◌∷◌, map, Option, Some, None, is_some, length, take, drop}
 use Rattle.std.specs.List.{filter_map}
 use Rattle.qls_model.specs.declared.machine.Status.{Status}
 use Rattle.qls_enqmap.specs.declared.Held.{Held}
+use Rattle.qls_enqmap.specs.declared.blocks.Blocks.{Blocks}
 
 abbrev pub Slots : Type 0
 Slots = List (ℕ × Option Held)
@@ -82,9 +83,42 @@ pub record IsPlace (es : Slots) (n : ℕ) (place : ℕ) : Type 0 where
   pub before : length (held_in (take place es)) ≡ n
   pub first : first_of (drop place (occupied es)) ≡ true
 
--- what holds of the slots, the number of records, the place of the first record, and whether the files are known to rise
-pub record IsKept (es : Slots) (count : ℕ) (start : ℕ) (rising : Bool) : Type 0 where
+-- how many records there are before a place
+abbrev pub before : Slots → ℕ → ℕ
+before es n = length (held_in (take n es))
+
+-- the slot at this place has this id
+abbrev pub IsSlotOf : Slots → ℕ → ℕ → Type 0
+IsSlotOf es place rid = (v : Option Held) × (slice_get es place ≡ Some (rid, v))
+
+-- one record more, one record less from this place on
+abbrev pub Gains : Slots → Slots → ℕ → Type 0
+Gains es us place = (n : ℕ) → before us n ≡ before es n + (if nat_lt place n then 1 else 0)
+
+abbrev pub Loses : Slots → Slots → ℕ → Type 0
+Loses es us place = (n : ℕ) → before us n + (if nat_lt place n then 1 else 0) ≡ before es n
+
+-- the counts are those of the blocks of so many slots; there are blocks for all slots
+pub record IsCounted (width : ℕ) (counts : List ℕ) (es : Slots) : Type 0 where
+  pub each : (b : ℕ) → before es (b * width + width) ≡ before es (b * width) + slice_index_or counts b 0
+  pub covers : length es ≤ length counts * width
+
+-- counts of small, middle and large blocks
+pub record AreCounted (blocks : Blocks) (es : Slots) : Type 0 where
+  pub small : IsCounted 64 blocks.small.items es
+  pub middle : IsCounted 4096 blocks.middle.items es
+  pub large : IsCounted 262144 blocks.large.items es
+
+-- there is a block for the slot at this place
+pub record HasRoom (blocks : Blocks) (place : ℕ) : Type 0 where
+  pub small : place < length blocks.small.items * 64
+  pub middle : place < length blocks.middle.items * 4096
+  pub large : place < length blocks.large.items * 262144
+
+-- what holds of the slots, the counts of blocks, the number of records, the place of the first, and whether the files are known to rise
+pub record IsKept (es : Slots) (blocks : Blocks) (count : ℕ) (start : ℕ) (rising : Bool) : Type 0 where
   pub rises : RisesFrom 0 es
+  pub blocks_counted : AreCounted blocks es
   pub counted : count ≡ length (held_in es)
   pub within : start ≤ length es
   pub holes : none_of (take start (occupied es)) ≡ true

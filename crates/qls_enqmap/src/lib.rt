@@ -1,6 +1,7 @@
 //! The messages that a queue holds, each with the files in which its record lies, by rising record id.
 #![tactic(auto)]
 
+mod blocks;
 mod map;
 mod places;
 mod slots;

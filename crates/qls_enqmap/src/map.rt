@@ -1,6 +1,7 @@
 // The map of held records.
+use crate::blocks::{Blocks, count_less, count_more, make_room, no_blocks};
 use crate::places::{file_at_place, held_at_place, least_file_of, place_of};
-use crate::slots::{find, put_last, set_status, still_rising, take_out, tidy};
+use crate::slots::{find, put_last, set_status, slot_of, still_rising, take_out, tidy};
 use crate::{EnqFault, Held};
 use indexmap::IndexMap;
 use qls_model::{NoMemory, Status, Xid};
@@ -14,6 +15,7 @@ use std::marker::Model;
 #[derive(Drop)]
 pub struct EnqMap {
     slots: IndexMap<u64, Option<Held>>,
+    blocks: Blocks,
     count: usize,
     start: usize,
     rising: bool,
@@ -28,7 +30,7 @@ impl Model for EnqMap {
 
     ghost view = { λ a. held_in a.slots.entries };
 
-    ghost invariant = { λ a. IsKept a.slots.entries a.count a.start a.rising };
+    ghost invariant = { λ a. IsKept a.slots.entries a.blocks a.count a.start a.rising };
 }
 
 impl EnqMap {
@@ -42,6 +44,7 @@ impl EnqMap {
     {
         EnqMap {
             slots: IndexMap::new(alloc),
+            blocks: no_blocks(alloc),
             count: 0,
             start: 0,
             rising: true,
@@ -56,8 +59,11 @@ impl EnqMap {
         ensures refused { IfErr result (λ _. self.new ≡ self.old) }
         ensures rising { RidsRise self.new }
     {
+        let place = self.slots.len();
         let rising = still_rising(&self.slots, self.rising, held.file);
+        make_room(&mut self.blocks, place)?;
         put_last(&mut self.slots, held)?;
+        count_more(&mut self.blocks, place);
         self.count += 1;
         self.rising = rising;
         Ok(())
@@ -99,10 +105,14 @@ impl EnqMap {
         ensures refused { IfErr result (λ _. self.new ≡ self.old) }
         ensures rising { RidsRise self.new }
     {
+        let Some(place) = slot_of(&self.slots, rid) else {
+            return Err(EnqFault::Unknown);
+        };
         match take_out(&mut self.slots, rid) {
             Some(held) => {
+                count_less(&mut self.blocks, place);
                 self.count -= 1;
-                self.start = tidy(&mut self.slots, self.count, self.start);
+                self.start = tidy(&mut self.slots, &mut self.blocks, self.count, self.start);
                 Ok(held)
             }
             None => Err(EnqFault::Unknown),
@@ -124,7 +134,7 @@ impl EnqMap {
         if at >= self.count {
             return None;
         }
-        let place = place_of(&self.slots, self.count, self.start, at);
+        let place = place_of(&self.slots, &self.blocks, self.count, self.start, at);
         held_at_place(&self.slots, place)
     }
 

@@ -1,13 +1,14 @@
 // Slots by rising record id; each has a record, or is a hole where one went out.
 use crate::Held;
+use crate::blocks::{Blocks, count_all};
 use indexmap::IndexMap;
 use qls_model::{NoMemory, Status};
 
-ghost use Rattle.std.specs.Prelude.{◌≡◌, ℕ, ◌+◌, ◌≤◌, ◌<◌, ◌^◌, Option, Some, true, not, [], ◌∷◌, ◌++◌, length, take, drop, min, option_copied, is_some, IfNone, IfOk, IfErr, if◌then◌else◌};
+ghost use Rattle.std.specs.Prelude.{◌≡◌, ℕ, None, IfSome, ◌+◌, ◌≤◌, ◌<◌, ◌^◌, Option, Some, true, not, [], ◌∷◌, ◌++◌, length, take, drop, min, option_copied, is_some, IfNone, IfOk, IfErr, if◌then◌else◌};
 ghost use Rattle.std.specs.List.{filter};
 ghost use Rattle.qls_enqmap.specs.declared.Held.{Held};
 ghost use Rattle.qls_enqmap.specs.Records.{held_at, with_status, without};
-ghost use Rattle.qls_enqmap.specs.Slots.{held_in, occupied, none_of, first_of, last_of, all_of, last_file, slot_file, restatus, RisesFrom, RidsBelow, FilesRise};
+ghost use Rattle.qls_enqmap.specs.Slots.{before, held_in, occupied, Loses, IsSlotOf, AreCounted, none_of, first_of, last_of, all_of, last_file, slot_file, restatus, RisesFrom, RidsBelow, FilesRise};
 
 pub(crate) type Slots = IndexMap<u64, Option<Held>>;
 
@@ -29,6 +30,7 @@ pub(crate) fn set_status(slots: &mut Slots, rid: u64, status: Status)
     ensures rises { RisesFrom 0 slots.new.entries }
     ensures occupied { occupied slots.new.entries ≡ occupied slots.old.entries }
     ensures long { length slots.new.entries ≡ length slots.old.entries }
+    ensures before { (n : ℕ) → before slots.new.entries n ≡ before slots.old.entries n }
 {
     match slots.get_mut(&rid) {
         Some(slot) => give_status(slot, status),
@@ -44,6 +46,18 @@ fn give_status(slot: &mut Option<Held>, status: Status)
     }
 }
 
+// The place of the slot of this id.
+pub(crate) fn slot_of(slots: &Slots, rid: u64) -> Option<usize>
+    requires rises { RisesFrom 0 slots.now.entries }
+    ensures slot { IfSome result (λ place. IsSlotOf slots.now.entries place rid) }
+    ensures none { IfNone result (held_at rid (held_in slots.now.entries) ≡ None) }
+{
+    match slots.get_full(&rid) {
+        Some((place, _, _)) => Some(place),
+        None => None,
+    }
+}
+
 // Takes out the record of this id, where there is one, and leaves a hole.
 pub(crate) fn take_out(slots: &mut Slots, rid: u64) -> Option<Held>
     requires rises { RisesFrom 0 slots.old.entries }
@@ -53,6 +67,7 @@ pub(crate) fn take_out(slots: &mut Slots, rid: u64) -> Option<Held>
     ensures holes { (n : ℕ) → none_of (take n (occupied slots.old.entries)) ≡ true → none_of (take n (occupied slots.new.entries)) ≡ true }
     ensures long { length slots.new.entries ≡ length slots.old.entries }
     ensures unknown { IfNone result (slots.new.entries ≡ slots.old.entries) }
+    ensures loses { IfSome result (λ _. (place : ℕ) → IsSlotOf slots.old.entries place rid → Loses slots.old.entries slots.new.entries place) }
     ensures fewer { length (held_in slots.new.entries) + (if is_some result then 1 else 0) ≡ length (held_in slots.old.entries) }
 {
     match slots.get_mut(&rid) {
@@ -117,6 +132,8 @@ fn trim_end(slots: &mut Slots)
     ensures held { held_in slots.new.entries ≡ held_in slots.old.entries }
     ensures rises { RisesFrom 0 slots.old.entries → RisesFrom 0 slots.new.entries }
     ensures last { last_of (occupied slots.new.entries) ≡ true }
+    ensures before { (n : ℕ) → before slots.new.entries n ≡ before slots.old.entries n }
+    ensures shorter { length slots.new.entries ≤ length slots.old.entries }
     ensures holes { (n : ℕ) → none_of (take n (occupied slots.old.entries)) ≡ true → none_of (take n (occupied slots.new.entries)) ≡ true }
 {
     while last_is_hole(slots) {
@@ -154,7 +171,7 @@ fn close_up(slots: &mut Slots)
 
 // Removes the holes behind the last record, closes up all holes if they are more than the records, and answers the
 // place of the first record.
-pub(crate) fn tidy(slots: &mut Slots, count: usize, start: usize) -> usize
+pub(crate) fn tidy(slots: &mut Slots, blocks: &mut Blocks, count: usize, start: usize) -> usize
     requires holes { none_of (take start (occupied slots.old.entries)) ≡ true }
     ensures held { held_in slots.new.entries ≡ held_in slots.old.entries }
     ensures rises { RisesFrom 0 slots.old.entries → RisesFrom 0 slots.new.entries }
@@ -162,10 +179,12 @@ pub(crate) fn tidy(slots: &mut Slots, count: usize, start: usize) -> usize
     ensures holes { none_of (take result (occupied slots.new.entries)) ≡ true }
     ensures first { first_of (drop result (occupied slots.new.entries)) ≡ true }
     ensures last { last_of (occupied slots.new.entries) ≡ true }
+    ensures counted { AreCounted blocks.old slots.old.entries → AreCounted blocks.new slots.new.entries }
 {
     trim_end(slots);
     if slots.len() / 2 > count {
         close_up(slots);
+        count_all(blocks, slots.len());
         return 0;
     }
     next_held(slots, start.min(slots.len()))

@@ -1,4 +1,4 @@
-use Rattle.std.proofs.Common.{◌≡◌, ◌∙◌, sym, Bool, true, false, not, refl}
+use Rattle.std.proofs.Common.{◌≡◌, ◌∙◌, sym, Bool, true, false, not, refl, arith}
 use Rattle.qls_enqmap.specs.Slots.{occupied, last_of}
 use Rattle.qls_enqmap.proofs.Ends.{Trims, trims}
 use Rattle.qls_enqmap.proofs.slots.trim_end.Goals as goal
@@ -13,6 +13,8 @@ loop-slots-preserved-in-loop-slots c =
         trims c.loop-slots.slots.entries c.pop.new.self.entries c.pop.result c.pop.ensures.entries (not_true _ (sym c.loop-slots-test.true ∙ c.last_is_hole.ensures.hole)) in
     record {
       held = t.held ∙ c.loop-slots.invariant.held;
+      before = λ n. t.before n ∙ c.loop-slots.invariant.before n;
+      shorter = omega (arith, t.shorter, c.loop-slots.invariant.shorter);
       rises = λ r. t.rises (c.loop-slots.invariant.rises r);
       holes = λ n h. t.holes n (c.loop-slots.invariant.holes n h);
     }
@@ -23,6 +25,8 @@ loop-slots-preserved-in-loop-slots-2 c =
         trims c.loop-slots.slots.entries c.pop.new.self.entries c.pop.result c.pop.ensures.entries (not_true _ (sym c.loop-slots-test.true ∙ c.last_is_hole.ensures.hole)) in
     record {
       held = t.held ∙ c.loop-slots.invariant.held;
+      before = λ n. t.before n ∙ c.loop-slots.invariant.before n;
+      shorter = omega (arith, t.shorter, c.loop-slots.invariant.shorter);
       rises = λ r. t.rises (c.loop-slots.invariant.rises r);
       holes = λ n h. t.holes n (c.loop-slots.invariant.holes n h);
     }
