@@ -1,0 +1,6 @@
+pub mod EndLaws
+pub mod Takes
+pub mod Agreeing
+pub mod Decided
+pub mod Steps
+pub mod Placing

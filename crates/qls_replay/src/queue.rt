@@ -1,0 +1,85 @@
+// A queue's records, one after another.
+use crate::ends::end_transaction;
+use crate::records::{put, take};
+use qls_enqmap::EnqMap;
+use qls_model::NoMemory;
+use qls_record::{Got, Kind};
+use qls_txnmap::TxnMap;
+use std::alloc::Global;
+use std::marker::Model;
+
+/// What the records of a queue's journal leave: the messages that are held, each with its files, and the operations of
+/// the transactions that are pending. The records are applied in their order, oldest first.
+#[derive(Drop)]
+pub struct QueueReplay {
+    held: EnqMap,
+    txns: TxnMap,
+}
+
+impl Model for QueueReplay {
+    ghost use Rattle.qls_replay.specs.Held.{Replayed, IsSound};
+
+    ghost Value = { Replayed };
+
+    ghost view = { λ a. record { held = a.held; txns = a.txns } };
+
+    ghost invariant = { λ a. IsSound a.held a.txns };
+}
+
+impl QueueReplay {
+    ghost use Rattle.std.specs.Prelude.{◌≡◌, ℕ, List, [], IfOk, IfErr};
+    ghost use Rattle.qls_model.specs.declared.machine.QueueState.{QueueState};
+    ghost use Rattle.qls_enqmap.specs.Records.{RidsRise};
+    ghost use Rattle.qls_txnmap.specs.Pending.{ops_of};
+    ghost use Rattle.qls_meaning.specs.Reading.{read_of};
+    ghost use Rattle.qls_meaning.specs.Replay.{after_record};
+    ghost use Rattle.qls_replay.specs.Held.{held_after, messages_of, IsAbove};
+    ghost use Rattle.qls_replay.specs.Ops.{Agrees};
+
+    /// No record yet.
+    pub fn new(alloc: Global) -> QueueReplay
+        ensures nothing { result.held ≡ [] }
+    {
+        QueueReplay {
+            held: EnqMap::new(alloc),
+            txns: TxnMap::new(alloc),
+        }
+    }
+
+    /// One more record. An enqueue holds a message, coming by its transaction where it has one. A dequeue takes a ready
+    /// message of its target out, or makes it going by its transaction. A commit and an abort end a transaction. Every
+    /// other record, and each of these where its target or its transaction isn't there, changes nothing; so does a flag.
+    ///
+    /// An enqueue's record id is above those that are held. Where memory is wanting nothing changes.
+    pub fn apply(&mut self, got: &Got) -> Result<(), NoMemory>
+        requires above { IsAbove got.now.head.kind got.now.head.rid self.old.held }
+        ensures held { IfOk result (λ _. self.new.held ≡ held_after got.now.head.kind (read_of got.now) self.old.held) }
+        ensures messages { IfOk result (λ _. (q : QueueState) → q.messages ≡ messages_of self.old.held → (after_record got.now.head.kind (read_of got.now).what q).messages ≡ messages_of self.new.held) }
+        ensures refused { IfErr result (λ _. self.new ≡ self.old) }
+    {
+        match got.head.kind {
+            Kind::Enqueue => put(&mut self.held, &mut self.txns, got),
+            Kind::Dequeue => take(&mut self.held, &mut self.txns, got),
+            Kind::Commit => {
+                end_transaction(&mut self.held, &mut self.txns, &got.xid, true);
+                Ok(())
+            }
+            Kind::Abort => {
+                end_transaction(&mut self.held, &mut self.txns, &got.xid, false);
+                Ok(())
+            }
+            Kind::Filler => Ok(()),
+        }
+    }
+
+    /// The messages that are held, and the operations of pending transactions: just those that coming and going
+    /// messages show.
+    pub fn finish(self) -> (EnqMap, TxnMap)
+        ensures held { result.0 ≡ self.held }
+        ensures txns { result.1 ≡ self.txns }
+        ensures rising { RidsRise result.0 }
+        ensures agrees { Agrees result.0 result.1 }
+    {
+        (self.held, self.txns)
+    }
+}
