@@ -1,0 +1,5 @@
+mod Order
+mod Disks
+mod Steps
+mod Calls
+mod Taken

@@ -1,0 +1,67 @@
+-- What the pool decides, between each two moments in a row: which file is created, comes into use, goes back, and how an empty
+-- file is written.
+use Rattle.std.specs.Prelude.{◌≡◌, ℕ, ◌+◌, ◌≤◌, true, false, List, [], ◌∷◌, ◌++◌, length, take, Option, Some, None, Ok}
+use Rattle.std.specs.List.{AllByRecursion}
+use Rattle.qls_site.specs.declared.site.Place.{Place}
+use Rattle.qls_site.specs.declared.site.Place.TheVariants.{InUse, Empty}
+use Rattle.qls_site.specs.Disk.{Disk, FileState, Write, file_of, full}
+use Rattle.qls_site.specs.Content.{Moment, Content}
+use Rattle.qls_filehdr.specs.declared.FileHeader.{FileHeader}
+use Rattle.qls_filehdr.specs.Header.{header_of}
+use Rattle.qls_meaning.specs.Journals.{is_in_use}
+use Rattle.qls_meaning.specs.Kept.{Differ, ids_of}
+use Rattle.qls_meaning.specs.Spent.{is_pool_place}
+use Rattle.qls_meaning.specs.Orderly.{IsNewFile, WasLeast, NamesPool, GoesHome}
+
+-- it had the least id of its pool, and has a legal header that is stable and names that pool, with nothing pending
+pub record IsPutInUse (m : Moment) (f g : FileState) (header : FileHeader) : Type 0 where
+  pub legal : header_of (take 4096 g.stable) ≡ Ok header
+  pub quiet : g.pending ≡ []
+  pub least : WasLeast m.disk f f.place
+  pub pool : NamesPool header f.place
+
+-- it goes to the pool in its header, and keeps all its bytes
+pub record IsPutBack (f g : FileState) (header : FileHeader) : Type 0 where
+  pub legal : header_of (take 4096 f.stable) ≡ Ok header
+  pub home : GoesHome header g.place
+  pub bytes : g.stable ≡ f.stable
+  pub pending : g.pending ≡ f.pending
+
+-- a write to an empty file meets its first 4,096 bytes alone
+abbrev pub MeetsFront : Place → Write → Type 0
+MeetsFront InUse w = Unit {0}
+MeetsFront (Empty part kib) w = w.at + length w.bytes ≤ 4096
+
+-- what happened to a file, f before and g after
+pub record PoolFileStep (m : Moment) (f g : FileState) : Type 0 where
+  pub taken : is_in_use f.place ≡ false → is_in_use g.place ≡ true → (header : FileHeader) × IsPutInUse m f g header
+  pub returned : is_in_use f.place ≡ true → is_in_use g.place ≡ false → (header : FileHeader) × IsPutBack f g header
+  pub written : (w : Write) → g.pending ≡ f.pending ++ w ∷ [] → MeetsFront f.place w
+
+-- a file that wasn't there has the greatest id plus 1 and holds zeros, and its pool had no file
+abbrev pub PoolFileSteps : Moment → Option FileState → FileState → Type 0
+PoolFileSteps m None g = IsNewFile m g.place g
+PoolFileSteps m (Some f) g = PoolFileStep m f g
+
+abbrev pub IsPoolStep : Moment → Moment → Type 0
+IsPoolStep m n = AllByRecursion (λ g. PoolFileSteps m (file_of g.id m.disk) g) n.disk
+
+abbrev pub ArePoolSteps : Moment → List Moment → Type 0
+ArePoolSteps m [] = Unit {0}
+ArePoolSteps m (n ∷ ns) = IsPoolStep m n × ArePoolSteps n ns
+
+-- the id is the least of the pool's files on the disk
+abbrev pub IsLeastOnDisk : ℕ → ℕ → ℕ → Disk → Type 0
+IsLeastOnDisk part kib id d = AllByRecursion (λ g. is_pool_place part kib g.place ≡ true → id ≤ g.id) d
+
+-- the moments that were added
+pub record AddsPoolSteps (old new : Content) : Type 0 where
+  pub since : List Moment
+  pub moments : new.moments ≡ old.moments ++ since
+  pub steps : ArePoolSteps old.now since
+
+-- where the content is told, the ids of its disk differ and this holds of it
+abbrev pub Orderly : (Disk → Type 0) → Option Content → Option Content → Type 0
+Orderly P (Some old) (Some new) = Differ (ids_of (full old.now.disk)) → P old.now.disk → AddsPoolSteps old new
+Orderly P (Some old) None = Unit {0}
+Orderly P None new = Unit {0}

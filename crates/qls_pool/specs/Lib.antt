@@ -1,0 +1,4 @@
+pub mod Pools
+pub mod Files
+pub mod Taking
+pub mod Discipline
