@@ -92,7 +92,7 @@ pub write_err : (X : Type 0) {Y : Type 0} (id : ℕ) (h : FileHeader) (bytes : L
     → Tells (Leads {X = X} (Acts (on_disk (write_at id 0 bytes))) (Acts (on_disk (write_at id 0 bytes))) (Err e)) a b → Tells (Heads {X = Y} id h r) a b
 write_err X {Y} id h bytes e r spelled is a b t =
     let told : Tells (Leads {X = X} (Acts (wrote_header id h)) (Acts (wrote_header id h)) (Err e)) a b =
-        subst (λ (bs : List ℕ). Tells (Leads {X = X} (Acts (on_disk (write_at id 0 bs))) (Acts (on_disk (write_at id 0 bs))) (Err e)) a b) spelled t in
+    subst (λ (bs : List ℕ). Tells (Leads {X = X} (Acts (on_disk (write_at id 0 bs))) (Acts (on_disk (write_at id 0 bs))) (Err e)) a b) spelled t in
     subst (λ q. Tells (Heads {X = Y} id h q) a b) (sym is)
     (Tells-weaken (Leads {X = X} (Acts (wrote_header id h)) (Acts (wrote_header id h)) (Err e)) (Heads {X = Y} id h (Err e)) a b told (write_failed X Y id h e))
 
@@ -155,11 +155,14 @@ headed_from : (b : BlankFile) (h : FileHeader) (d : Disk) → IsTrue (is_legal_h
 headed_from b h d legal own None e k = absurd k
 headed_from b h d legal own (Some f) e k =
     let wrote : file_of b.id (write_at b.id 0 (header_spelling h) d) ≡ Some (write (header_spelling h) f) = own_change b.id (write (header_spelling h)) (λ f. refl) d f e in
-    subst (IsHeaded (record { id = b.id; header = h })) (sym (own_change b.id sync (λ f. refl) (write_at b.id 0 (header_spelling h) d) (write (header_spelling h) f) wrote))
-    (k.0 ∙ same_pool b h own, refl, record {
-      size = size_wrote (header_spelling h) f (front_fits h (size_of f) b.home.kib legal k.1) ∙ k.1 ∙ ap file_size (sym own.kib);
-      stable = front_wrote (header_spelling h) f (header_length h legal);
-    })
+    subst (IsHeaded (record { id = b.id; header = h })) (sym (own_change b.id sync (λ f. refl) (write_at b.id 0 (header_spelling h) d) (write (header_spelling h) f) wrote)) (
+      k.0 ∙ same_pool b h own,
+      refl,
+      record {
+        size = size_wrote (header_spelling h) f (front_fits h (size_of f) b.home.kib legal k.1) ∙ k.1 ∙ ap file_size (sym own.kib);
+        stable = front_wrote (header_spelling h) f (header_length h legal);
+      },
+    )
 
 pub headed_there : {X : Type 0} (b : BlankFile) (h : FileHeader) (v : X) → IsTrue (is_legal_header h) → HeadsBlank b h → (x y : Content) → Heads b.id h (Ok v) x y → BlankThere b x.now.disk
     → HeadedThere (record { id = b.id; header = h }) y.now.disk
@@ -174,8 +177,8 @@ pub heads_pool : {X : Type 0} (b : BlankFile) (h : FileHeader) (v : X) → IsTru
 heads_pool b h v legal pool out x y e k p =
     let d : Disk = x.now.disk in
     let first : IsPoolOf pool out (write_at b.id 0 (header_spelling h) d) =
-        pool_kept b.id (write (header_spelling h)) (λ f. refl) (λ f. refl) d
-        (λ f is. size_wrote (header_spelling h) f (front_fits h (size_of f) b.home.kib legal (blank_size b (file_of b.id d) f k is))) pool out p in
+    pool_kept b.id (write (header_spelling h)) (λ f. refl) (λ f. refl) d
+    (λ f is. size_wrote (header_spelling h) f (front_fits h (size_of f) b.home.kib legal (blank_size b (file_of b.id d) f k is))) pool out p in
     subst (λ (c : Content). IsPoolOf pool out c.now.disk) (sym e) (pool_kept b.id sync (λ f. refl) (λ f. refl) (write_at b.id 0 (header_spelling h) d) (λ f is. refl) pool out first)
 
 least_kept : (part kib id own : ℕ) (c : FileState → FileState) → KeepsId c → ((f : FileState) → (c f).place ≡ f.place) → (d : Disk) → IsLeastOnDisk part kib id d → IsLeastOnDisk part kib id (change_file own c d)

@@ -133,5 +133,6 @@ pool_linked own d pool out h = record {
   where
     used : FileState → FileState
     used f = record f { place = InUse }
+
     turn : (m n : ℕ) → (n == m) ≡ false → (m == n) ≡ false
     turn m n e = grind (arith, nat_tests, e)

@@ -115,10 +115,13 @@ with_one n h (Some m) p = elim (le_total n m) [
   where
     le_total : (a b : ℕ) → (a ≤ b) ⊎ (b ≤ a)
     le_total a b = grind arith
+
     min_left : (a b : ℕ) → a ≤ b → min a b ≡ a
     min_left a b k = grind (arith, k)
+
     min_right : (a b : ℕ) → b ≤ a → min a b ≡ b
     min_right a b k = grind (arith, k)
+
     or_true : (a b : Bool) → b ≡ true → (a || b) ≡ true
     or_true true b e = refl
     or_true false b e = e
@@ -232,6 +235,7 @@ own_file a = equal_file a a ∙ own (a.part == a.part) (a.kib == a.kib) (a.id ==
   where
     own : (x y z : Bool) → x ≡ true → y ≡ true → z ≡ true → ((x && y) && z) ≡ true
     own x y z p q r = cc
+
     eqb_own : (n : ℕ) → (n == n) ≡ true
     eqb_own n = grind (arith, nat_tests)
 

@@ -48,7 +48,7 @@ all_with P f h [] p = (h, tt)
 all_with P f h (g ∷ d) p =
     elim (ltb f.id g.id) as (λ b. AllByRecursion P (cond b (f ∷ g ∷ d) (g ∷ with_file f d))) [ true ↦ (h, (p.0, p.1)) | false ↦ (p.0, all_with P f h d p.1) ]
 
-apart : (n : ℕ) (d : Disk) → AllByRecursion (λ id. nat_eq n id ≡ false) (ids_of (full d)) → AllByRecursion (λ g. (n == g.id) ≡ false) d
+pub apart : (n : ℕ) (d : Disk) → AllByRecursion (λ id. nat_eq n id ≡ false) (ids_of (full d)) → AllByRecursion (λ g. (n == g.id) ≡ false) d
 apart n [] h = tt
 apart n (f ∷ d) h = (h.0, apart n d h.1)
 
@@ -211,12 +211,15 @@ reads_header h f legal k = ap header_of k.stable ∙ header_of-header_spelling h
 
 into_use : (h : HeadedFile) (m : Moment) (f : FileState) → f.id ≡ h.id → IsTrue (is_legal_header h.header) → IsHeaded h (Some f) → IsLeastOnDisk h.header.part h.header.kib h.id m.disk → PoolFileStep m f (record f { place = InUse })
 into_use h m f id legal k least = record {
-  taken = λ a b. (h.header, record {
-    legal = reads_header h.header f legal k.2;
-    quiet = k.1;
-    least = subst (WasLeast m.disk f) (sym k.0) (subst (λ n. IsLeastOnDisk h.header.part h.header.kib n m.disk) (sym id) least);
-    pool = subst (NamesPool h.header) (sym k.0) (refl, refl);
-  });
+  taken = λ a b. (
+    h.header,
+    record {
+      legal = reads_header h.header f legal k.2;
+      quiet = k.1;
+      least = subst (WasLeast m.disk f) (sym k.0) (subst (λ n. IsLeastOnDisk h.header.part h.header.kib n m.disk) (sym id) least);
+      pool = subst (NamesPool h.header) (sym k.0) (refl, refl);
+    },
+  );
   returned = λ a b. absurd (not_both true b refl);
   written = λ w e. absurd (longer f.pending w e);
 }

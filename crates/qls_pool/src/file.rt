@@ -7,6 +7,7 @@ ghost use Rattle.qls_pool.specs.Files.{HeadsBlank, BlankThere, HeadedThere, Link
 ghost use Rattle.qls_pool.specs.Taking.{Heads, put_in_use};
 ghost use Rattle.qls_pool.specs.Discipline.{Orderly, IsLeastOnDisk};
 
+use crate::pooled::PooledFile;
 use qls_filehdr::FileHeader;
 use qls_model::PoolId;
 use qls_site::{Place, Site, SiteError};
@@ -180,5 +181,17 @@ impl Linked {
         ensures legal { IsTrue (is_legal_header result.now) }
     {
         &self.header
+    }
+
+    /// The file among those of the pool that its header names.
+    pub(crate) fn pooled(&self) -> PooledFile
+        ensures exact { result ≡ record { part = self.now.header.part; kib = self.now.header.kib; id = self.now.id } }
+        ensures legal { IsTrue (is_legal_header self.now.header) }
+    {
+        PooledFile {
+            part: self.header.part,
+            kib: self.header.kib,
+            id: self.id,
+        }
     }
 }

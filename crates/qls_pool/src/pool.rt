@@ -102,7 +102,12 @@ impl Pool {
     }
 
     /// Takes the least file out of the pool, or creates one where there is none.
-    fn obtain<S: Site>(&mut self, site: &mut S, home: PoolId, least: Option<u64>) -> Result<u64, SiteError>
+    fn obtain<S: Site>(
+        &mut self,
+        site: &mut S,
+        home: PoolId,
+        least: Option<u64>,
+    ) -> Result<u64, SiteError>
         requires least { least ≡ least_id home self.old.files }
         requires unspent { ¬ IsSpent home self.old }
         requires pool { IfSome (S.told site.old) (OnDisk (HasPool self.old)) }
@@ -160,11 +165,7 @@ impl Pool {
         ensures pool { IfOk result (λ _. (out : List ℕ) → is_among file.id out ≡ false → Carries (IsPoolOf self.old out) (IsPoolOf self.new out) (S.told site.old) (S.told site.new)) }
         ensures orderly { Orderly (LinkedThere file) (S.told site.old) (S.told site.new) }
     {
-        let pooled = PooledFile {
-            part: file.header().part,
-            kib: file.header().kib,
-            id: file.id(),
-        };
+        let pooled = file.pooled();
         let added = pooled::add(&mut self.files, pooled)?;
         let moved = relocate_home(site, pooled);
         if added && moved.is_err() {
