@@ -55,10 +55,10 @@ greatest-with f (g ∷ d) =
       | false ↦ ap (max g.id) (greatest-with f d) ∙ max_turned g.id f.id (greatest_id d)
     ]
 
-below_left : (a b n : ℕ) → max a b < n → a < n
+pub below_left : (a b n : ℕ) → max a b < n → a < n
 below_left a b n h = grind (arith, h)
 
-below_right : (a b n : ℕ) → max a b < n → b < n
+pub below_right : (a b n : ℕ) → max a b < n → b < n
 below_right a b n h = grind (arith, h)
 
 -- above the greatest id there is no file

@@ -27,7 +27,7 @@ use Rattle.qls_meaning.specs.Orderly.{IsNewFile, WasLeast, NamesPool, GoesHome}
 use Rattle.qls_pool.specs.Files.{BlankFile, HeadedFile, HeadsBlank, HasHeader, IsBlank, IsHeaded, IsLinked, BlankThere, HeadedThere, LinkedThere}
 use Rattle.qls_pool.specs.Taking.{header_written, header_synced, put_in_use, put_back, Heads}
 use Rattle.qls_pool.specs.Discipline.{IsPutInUse, IsPutBack, MeetsFront, PoolFileStep, PoolFileSteps, IsPoolStep, ArePoolSteps, IsLeastOnDisk, AddsPoolSteps}
-use Rattle.qls_pool.proofs.Disks.{eqb_is, eqb_own, same_id, found_id, lacks_above}
+use Rattle.qls_pool.proofs.Disks.{eqb_is, eqb_own, same_id, found_id, lacks_above, eqb_less, below_left, below_right}
 
 -- ---- all files
 
@@ -239,3 +239,39 @@ link_step h m legal differ there least =
 pub back_step : (h : HeadedFile) (m : Moment) → IsTrue (is_legal_header h.header) → Differ (ids_of (full m.disk)) → LinkedThere h m.disk → IsPoolStep m (put_back h.id h.header m)
 back_step h m legal differ there =
     step_change h.id (λ f. record f { place = Empty h.header.part h.header.kib }) (λ f. refl) m differ (λ f e. back_home h m f legal (linked_is h (file_of h.id m.disk) f there e))
+
+-- ---- ids differ still
+
+ids_all : (n : ℕ) (d : Disk) → AllByRecursion (λ g. (n == g.id) ≡ false) d → AllByRecursion (λ id. nat_eq n id ≡ false) (ids_of (full d))
+ids_all n [] h = tt
+ids_all n (f ∷ d) h = (h.0, ids_all n d h.1)
+
+eqb_turned : (m n : ℕ) → (m == n) ≡ false → (n == m) ≡ false
+eqb_turned m n e = grind (arith, nat_tests, e)
+
+above_all : (n : ℕ) (d : Disk) → greatest_id d < n → AllByRecursion (λ g. (n == g.id) ≡ false) d
+above_all n [] h = tt
+above_all n (f ∷ d) h = (eqb_turned f.id n (eqb_less f.id n (below_left f.id (greatest_id d) n h)), above_all n d (below_right f.id (greatest_id d) n h))
+
+differ_with : (f : FileState) (d : Disk) → AllByRecursion (λ g. (f.id == g.id) ≡ false) d → Differ (ids_of (full d)) → Differ (ids_of (full (with_file f d)))
+differ_with f [] a h = (tt, tt)
+differ_with f (g ∷ d) a h =
+    elim (ltb f.id g.id) as (λ b. Differ (ids_of (full (cond b (f ∷ g ∷ d) (g ∷ with_file f d))))) [
+      | true ↦ (ids_all f.id (g ∷ d) a, h)
+      | false ↦ (ids_all g.id (with_file f d) (all_with (λ x. (g.id == x.id) ≡ false) f (eqb_turned f.id g.id a.0) d (apart g.id d h.0)), differ_with f d a.1 h.1)
+    ]
+
+pub differ_create : (n part kib : ℕ) (d : Disk) → n ≡ greatest_id d + 1 → Differ (ids_of (full d)) → Differ (ids_of (full (create_at n part kib d)))
+differ_create n part kib d next h =
+    differ_with (record { id = n; place = Empty part kib; stable = replicate (4096 + 1024 * kib) 0; pending = [] }) d (above_all n d (omega (arith, next))) h
+
+pub differ_change : (own : ℕ) (c : FileState → FileState) → KeepsId c → (d : Disk) → Differ (ids_of (full d)) → Differ (ids_of (full (change_file own c d)))
+differ_change own c keeps d h = subst Differ (sym (ids_same own c keeps d)) h
+
+pub heads_ids : {X : Type 0} (id : ℕ) (h : FileHeader) (v : X) (x y : Content) → Heads id h (Ok v) x y → Differ (ids_of (full x.now.disk)) → Differ (ids_of (full y.now.disk))
+heads_ids id h v x y e k =
+    subst (λ (c : Content). Differ (ids_of (full c.now.disk))) (sym e)
+    (differ_change id sync (λ f. refl) (write_at id 0 (header_spelling h) x.now.disk) (differ_change id (write (header_spelling h)) (λ f. refl) x.now.disk k))
+
+pub moved_ids : (id : ℕ) (to : Place) (x y : Content) → Acts (on_disk (relocate_at id to)) x y → Differ (ids_of (full x.now.disk)) → Differ (ids_of (full y.now.disk))
+moved_ids id to x y e k = subst (λ (c : Content). Differ (ids_of (full c.now.disk))) (sym e) (differ_change id (λ f. record f { place = to }) (λ f. refl) x.now.disk k)

@@ -20,13 +20,13 @@ use Rattle.qls_pool.specs.declared.fault.TakeFault.{TakeFault}
 use Rattle.qls_pool.specs.declared.fault.TakeFault.TheVariants.{Failed, Draw, Spent, Memory}
 use Rattle.qls_pool.specs.declared.pooled.PooledFile.{PooledFile}
 use Rattle.qls_pool.specs.Pools.{PoolState, is_in, is_file, has, least_id, first_or, greatest_with, HandsOut, TakesBack, is_listed_in, Opens}
-use Rattle.qls_pool.specs.Files.{BlankFile, HeadedFile, IsBlank, IsLinked, BlankThere, LinkedThere, OnDisk, Carries, IsPoolOf, HasPool, IsWholePool, is_at, is_among, FitsPlace, IsSized, is_listed_empty, IsListingOf}
+use Rattle.qls_pool.specs.Files.{BlankFile, HeadedFile, IsBlank, IsLinked, BlankThere, LinkedThere, OnDisk, Carries, IsPoolOf, HasPool, IdsDiffer, IsWholePool, is_at, is_among, FitsPlace, IsSized, is_listed_empty, IsListingOf}
 use Rattle.qls_pool.specs.Taking.{created, Obtains, Obtained, TakesBlank, put_back}
 use Rattle.qls_pool.specs.Discipline.{IsLeastOnDisk, AddsPoolSteps, Orderly, IsPoolStep}
 use Rattle.qls_pool.proofs.Calls.{orderly_of, carries_of, carries_with}
 use Rattle.qls_pool.proofs.Order.{IsLeastOf, least_is}
 use Rattle.qls_pool.proofs.Disks.{eqb_is, eqb_own, eqb_less, same_id, found_id, greatest-change, greatest-with, lacks_above, other-with, at_change}
-use Rattle.qls_pool.proofs.Steps.{apart, all_weaken, all_with, all_found, step_create, adds_none, adds_one, adds_may, own_change}
+use Rattle.qls_pool.proofs.Steps.{differ_create, moved_ids, apart, all_weaken, all_with, all_found, step_create, adds_none, adds_one, adds_may, own_change}
 
 -- ---- tests
 
@@ -389,3 +389,15 @@ opens_pool most listed pool o d h = record {
       ∙ listing_any part kib id d h.differ ∙ sym (and_true (is_at part kib (file_of id d)));
   sizes = h.sizes;
 }
+
+ids_by : (home : PoolId) (pool : PoolState) (x y : Content) → IsWholePool pool x.now.disk → (o : Option ℕ) → Obtains home pool.greatest o x y → Differ (ids_of (full y.now.disk))
+ids_by home pool x y w (Some n) e = subst (λ (c : Content). Differ (ids_of (full c.now.disk))) (sym e) w.0
+ids_by home pool x y w None e =
+    subst (λ (c : Content). Differ (ids_of (full c.now.disk))) (sym e) (differ_create (pool.greatest + 1) home.part home.kib x.now.disk (next_of pool [] x.now.disk w.1) w.0)
+
+pub blank_ids : (home : PoolId) (pool : PoolState) (x y : Content) → Obtains home pool.greatest (least_id home pool.files) x y → IsWholePool pool x.now.disk → Differ (ids_of (full y.now.disk))
+blank_ids home pool x y e w = ids_by home pool x y w (least_id home pool.files) e
+
+pub back_ids : {X : Type 0} (h : HeadedFile) (r : Result X SiteError) (a b : Option Content) → Tells (Leads (Acts (put_back h.id h.header)) (MayAct (put_back h.id h.header)) r) a b → IfOk r (λ _. Carries IdsDiffer IdsDiffer a b)
+back_ids h (Ok v) a b t = carries_of (Acts (put_back h.id h.header)) IdsDiffer IdsDiffer a b t (λ x y e k. moved_ids h.id (Empty h.header.part h.header.kib) x y e k)
+back_ids h (Err e) a b t = tt

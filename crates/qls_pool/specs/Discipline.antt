@@ -4,13 +4,13 @@ use Rattle.std.specs.Prelude.{◌≡◌, ℕ, ◌+◌, ◌≤◌, true, false, L
 use Rattle.std.specs.List.{AllByRecursion}
 use Rattle.qls_site.specs.declared.site.Place.{Place}
 use Rattle.qls_site.specs.declared.site.Place.TheVariants.{InUse, Empty}
-use Rattle.qls_site.specs.Disk.{Disk, FileState, Write, file_of, full}
+use Rattle.qls_site.specs.Disk.{Disk, FileState, Write, file_of}
 use Rattle.qls_site.specs.Content.{Moment, Content}
 use Rattle.qls_filehdr.specs.declared.FileHeader.{FileHeader}
 use Rattle.qls_filehdr.specs.Header.{header_of}
 use Rattle.qls_meaning.specs.Journals.{is_in_use}
-use Rattle.qls_meaning.specs.Kept.{Differ, ids_of}
 use Rattle.qls_meaning.specs.Spent.{is_pool_place}
+use Rattle.qls_pool.specs.Files.{IdsDiffer}
 use Rattle.qls_meaning.specs.Orderly.{IsNewFile, WasLeast, NamesPool, GoesHome}
 
 -- it had the least id of its pool, and has a legal header that is stable and names that pool, with nothing pending
@@ -62,6 +62,6 @@ pub record AddsPoolSteps (old new : Content) : Type 0 where
 
 -- where the content is told, the ids of its disk differ and this holds of it
 abbrev pub Orderly : (Disk → Type 0) → Option Content → Option Content → Type 0
-Orderly P (Some old) (Some new) = Differ (ids_of (full old.now.disk)) → P old.now.disk → AddsPoolSteps old new
+Orderly P (Some old) (Some new) = IdsDiffer old.now.disk → P old.now.disk → AddsPoolSteps old new
 Orderly P (Some old) None = Unit {0}
 Orderly P None new = Unit {0}

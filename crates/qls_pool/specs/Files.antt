@@ -94,6 +94,10 @@ pub record IsPoolOf (pool : PoolState) (out : List ℕ) (d : Disk) : Type 0 wher
   pub files : (part kib id : ℕ) → has part kib id pool.files ≡ (is_at part kib (file_of id d) && not (is_among id out))
   pub sizes : (id : ℕ) → IsSized (file_of id d)
 
+-- no two files have the same id
+abbrev pub IdsDiffer : Disk → Type 0
+IdsDiffer d = Differ (ids_of (full d))
+
 abbrev pub is_listed_empty : FileAt → Bool
 is_listed_empty f = not (is_in_use f.place)
 
@@ -101,7 +105,7 @@ is_listed_empty f = not (is_in_use f.place)
 pub record IsListingOf (most : ℕ) (listed : List FileAt) (d : Disk) : Type 0 where
   pub greatest : most ≡ greatest_id d
   pub empties : filter is_listed_empty listed ≡ filter is_listed_empty (listing d)
-  pub differ : Differ (ids_of (full d))
+  pub differ : IdsDiffer d
   pub sizes : (id : ℕ) → IsSized (file_of id d)
 
 -- ---- conditions on what a site tells
@@ -115,7 +119,7 @@ HasPool pool d = (out : List ℕ) × IsPoolOf pool out d
 
 -- ids differ, and no file is out: the pool has every empty file
 abbrev pub IsWholePool : PoolState → Disk → Type 0
-IsWholePool pool d = Differ (ids_of (full d)) × IsPoolOf pool [] d
+IsWholePool pool d = IdsDiffer d × IsPoolOf pool [] d
 
 -- where the content is told, what holds of the disk at the start makes this hold at the end
 abbrev pub Carries : (Disk → Type 0) → (Disk → Type 0) → Option Content → Option Content → Type 0

@@ -3,7 +3,7 @@ ghost use Rattle.std.specs.Prelude.{◌≡◌, ◌∷◌, ℕ, List, IfOk, IfSom
 ghost use Rattle.qls_site.specs.Content.{Tells, Leads, Acts, MayAct, Causes, HasRange};
 ghost use Rattle.qls_filehdr.specs.Limits.{is_legal_header};
 ghost use Rattle.qls_pool.specs.Pools.{PoolState};
-ghost use Rattle.qls_pool.specs.Files.{HeadsBlank, BlankThere, HeadedThere, LinkedThere, RestsThere, IsPoolOf, OnDisk, Carries};
+ghost use Rattle.qls_pool.specs.Files.{HeadsBlank, BlankThere, HeadedThere, LinkedThere, RestsThere, IdsDiffer, IsPoolOf, OnDisk, Carries};
 ghost use Rattle.qls_pool.specs.Taking.{Heads, put_in_use};
 ghost use Rattle.qls_pool.specs.Discipline.{Orderly, IsLeastOnDisk};
 
@@ -96,6 +96,7 @@ impl Blank {
         ensures there { IfOk result (λ headed. IfSome (S.told site.new) (OnDisk (HeadedThere headed))) }
         ensures pool { IfOk result (λ _. (pool : PoolState) (out : List ℕ) → Carries (IsPoolOf pool out) (IsPoolOf pool out) (S.told site.old) (S.told site.new)) }
         ensures least { IfOk result (λ _. Carries (IsLeastOnDisk header.part header.kib self.id) (IsLeastOnDisk header.part header.kib self.id) (S.told site.old) (S.told site.new)) }
+        ensures ids { IfOk result (λ _. Carries IdsDiffer IdsDiffer (S.told site.old) (S.told site.new)) }
         ensures orderly { Orderly (BlankThere self) (S.told site.old) (S.told site.new) }
     {
         write_header(site, self.id, &header)?;
@@ -147,6 +148,7 @@ impl Headed {
         ensures cause { Causes (S.faults site.old) (S.faults site.new) result }
         ensures there { IfOk result (λ linked. IfSome (S.told site.new) (OnDisk (LinkedThere linked))) }
         ensures pool { IfOk result (λ _. (pool : PoolState) (out : List ℕ) → Carries (IsPoolOf pool (self.id ∷ out)) (IsPoolOf pool out) (S.told site.old) (S.told site.new)) }
+        ensures ids { IfOk result (λ _. Carries IdsDiffer IdsDiffer (S.told site.old) (S.told site.new)) }
         ensures orderly { Orderly (IsLeastOnDisk self.header.part self.header.kib self.id) (S.told site.old) (S.told site.new) }
     {
         let Headed { id, header } = self;

@@ -3,7 +3,7 @@ ghost use Rattle.std.specs.Prelude.{◌≡◌, ◌<◌, ◌^◌, ◌-◌, ◌∷
 ghost use Rattle.qls_site.specs.Disk.{Disk};
 ghost use Rattle.qls_site.specs.Content.{Tells, Leads, Acts, MayAct, Causes, HasFile};
 ghost use Rattle.qls_pool.specs.Pools.{has, is_listed_in, least_id, HandsOut, TakesBack, IsSpent, Opens};
-ghost use Rattle.qls_pool.specs.Files.{BlankThere, LinkedThere, IsPoolOf, HasPool, IsWholePool, IsListingOf, OnDisk, Carries, is_among};
+ghost use Rattle.qls_pool.specs.Files.{BlankThere, LinkedThere, IsPoolOf, HasPool, IdsDiffer, IsWholePool, IsListingOf, OnDisk, Carries, is_among};
 ghost use Rattle.qls_pool.specs.Taking.{TakesBlank, Obtained, DrawsSerial, TakeCauses, put_back, put_home};
 ghost use Rattle.qls_pool.specs.Discipline.{Orderly, IsLeastOnDisk};
 
@@ -90,6 +90,7 @@ impl Pool {
         ensures there { IfOk result (λ blank. (out : List ℕ) → Carries (IsPoolOf self.old out) (BlankThere blank) (S.told site.old) (S.told site.new)) }
         ensures pool { IfOk result (λ blank. (out : List ℕ) → Carries (IsPoolOf self.old out) (IsPoolOf self.new (blank.id ∷ out)) (S.told site.old) (S.told site.new)) }
         ensures least { IfOk result (λ blank. Carries (IsWholePool self.old) (IsLeastOnDisk home.part home.kib blank.id) (S.told site.old) (S.told site.new)) }
+        ensures ids { IfOk result (λ _. Carries (IsWholePool self.old) IdsDiffer (S.told site.old) (S.told site.new)) }
         ensures orderly { Orderly (IsPoolOf self.old []) (S.told site.old) (S.told site.new) }
     {
         let least = pooled::least(&self.files, home);
@@ -163,6 +164,7 @@ impl Pool {
         ensures told { Tells (Leads (Acts (put_back file.id file.header)) (MayAct (put_back file.id file.header)) result) (S.told site.old) (S.told site.new) }
         ensures cause { Causes (S.faults site.old) (S.faults site.new) result }
         ensures pool { IfOk result (λ _. (out : List ℕ) → is_among file.id out ≡ false → Carries (IsPoolOf self.old out) (IsPoolOf self.new out) (S.told site.old) (S.told site.new)) }
+        ensures ids { IfOk result (λ _. Carries IdsDiffer IdsDiffer (S.told site.old) (S.told site.new)) }
         ensures orderly { Orderly (LinkedThere file) (S.told site.old) (S.told site.new) }
     {
         let pooled = file.pooled();

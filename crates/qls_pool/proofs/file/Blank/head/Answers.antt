@@ -1,9 +1,10 @@
 use Rattle.std.proofs.Common.{◌≡◌, ℕ, List, Result, Ok, IfSome, ◌∙◌, sym, ap, subst}
 use Rattle.qls_site.specs.declared.site.SiteError.{SiteError}
 use Rattle.qls_site.specs.Content.{Tells}
-use Rattle.qls_pool.specs.Files.{BlankFile, HeadedFile, BlankThere, HeadedThere, OnDisk, IsPoolOf}
+use Rattle.qls_pool.specs.Files.{BlankFile, HeadedFile, BlankThere, HeadedThere, OnDisk, IdsDiffer, IsPoolOf}
 use Rattle.qls_pool.specs.Taking.{Heads}
 use Rattle.qls_pool.specs.Discipline.{IsLeastOnDisk, Orderly}
+use Rattle.qls_pool.proofs.Steps.{heads_ids}
 use Rattle.qls_pool.proofs.Calls.{handed_on, heads_err, head_orderly, told_then, carries_of, carries_with, headed_there, heads_pool, heads_least}
 use Rattle.qls_pool.proofs.file.Blank.head.Given as Given
 use Rattle.qls_pool.proofs.file.Blank.head.Goals as goal
@@ -44,3 +45,7 @@ pub returns-clause-orderly : goal.returns-clause-orderly
 returns-clause-orderly g c =
     let r : Result (Unit {0}) SiteError = Ok (tt {0}) in
     head_orderly c.args.self c.args.header r _ _ c.requires.legal (told g c)
+
+pub returns-clause-ids : goal.returns-clause-ids
+returns-clause-ids g c =
+    carries_of (Heads {X = Unit {0}} c.args.self.id c.args.header (Ok (tt {0}))) IdsDiffer IdsDiffer _ _ (told g c) (heads_ids c.args.self.id c.args.header (tt {0}))

@@ -3,9 +3,11 @@ use Rattle.qls_site.specs.Content.{Tells, Acts, MayAct, Leads}
 use Rattle.qls_site.specs.declared.site.SiteError.{SiteError}
 use Rattle.qls_filehdr.specs.Limits.{is_legal_header}
 use Rattle.qls_pool.specs.Pools.{PoolState}
-use Rattle.qls_pool.specs.Files.{HeadedFile, HeadedThere, LinkedThere, OnDisk, Carries, IsPoolOf}
+use Rattle.qls_pool.specs.Files.{HeadedFile, HeadedThere, LinkedThere, OnDisk, Carries, IdsDiffer, IsPoolOf}
 use Rattle.qls_pool.specs.Taking.{put_in_use}
 use Rattle.qls_pool.specs.Discipline.{IsLeastOnDisk, Orderly}
+use Rattle.qls_site.specs.declared.site.Place.TheVariants.{InUse}
+use Rattle.qls_pool.proofs.Steps.{moved_ids}
 use Rattle.qls_pool.proofs.Calls.{handed_on, leads_err, link_orderly, told_then, carries_of, linked_there, links_pool}
 use Rattle.qls_pool.proofs.file.Headed.link.Goals as goal
 
@@ -36,3 +38,6 @@ returns-clause-orderly g c =
     subst (λ (h : HeadedFile). Orderly (IsLeastOnDisk h.header.part h.header.kib h.id) (g.S.Site.told c.args.site.now) (g.S.Site.told c.relocate.new.self)) c.self.view_is
     (link_orderly (record { id = c.self.inside.id; header = c.self.inside.header }) r _ _ c.self.invariant c.in_ok-relocate.ensures.told
     (subst (λ (k : HeadedFile). IfSome (g.S.Site.told c.args.site.now) (OnDisk (HeadedThere k))) (sym c.self.view_is) c.requires.there))
+
+pub returns-clause-ids : goal.returns-clause-ids
+returns-clause-ids g c = carries_of (Acts (put_in_use c.self.inside.id)) IdsDiffer IdsDiffer _ _ c.in_ok-relocate.ensures.told (moved_ids c.self.inside.id InUse)

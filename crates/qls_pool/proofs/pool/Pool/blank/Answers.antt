@@ -1,10 +1,10 @@
 use Rattle.std.proofs.Common.{◌≡◌, ℕ, List, [], ◌∷◌, Option, refl}
 use Rattle.qls_pool.specs.Pools.{PoolState, least_id}
-use Rattle.qls_pool.specs.Files.{BlankFile, BlankThere, IsPoolOf, IsWholePool}
+use Rattle.qls_pool.specs.Files.{BlankFile, BlankThere, IsPoolOf, IdsDiffer, IsWholePool}
 use Rattle.qls_pool.specs.Taking.{Obtains}
 use Rattle.qls_pool.specs.Discipline.{IsLeastOnDisk}
 use Rattle.qls_pool.proofs.Calls.{carries_of}
-use Rattle.qls_pool.proofs.Taken.{blank_failed, blank_orderly, blank_there, blank_pool, blank_least}
+use Rattle.qls_pool.proofs.Taken.{blank_failed, blank_orderly, blank_there, blank_pool, blank_least, blank_ids}
 use Rattle.qls_pool.proofs.pool.Pool.blank.Goals as goal
 
 pub returns-in_err-id-clause-orderly : goal.returns-in_err-id-clause-orderly
@@ -28,3 +28,8 @@ returns-clause-least g c =
 
 pub returns-clause-orderly : goal.returns-clause-orderly
 returns-clause-orderly g c = blank_orderly c.args.home c.args.self.now _ _ c.in_ok-id.ensures.told
+
+pub returns-clause-ids : goal.returns-clause-ids
+returns-clause-ids g c =
+    carries_of (Obtains c.args.home c.args.self.now.greatest (least_id c.args.home c.args.self.now.files)) (IsWholePool c.args.self.now) IdsDiffer _ _ c.in_ok-id.ensures.told
+    (λ x y e w. blank_ids c.args.home c.args.self.now x y e w)

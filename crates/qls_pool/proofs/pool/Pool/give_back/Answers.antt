@@ -4,7 +4,7 @@ use Rattle.qls_pool.specs.declared.pooled.PooledFile.{PooledFile}
 use Rattle.qls_pool.specs.Taking.{put_home}
 use Rattle.qls_pool.proofs.Calls.{back_orderly}
 use Rattle.qls_pool.specs.Pools.{PoolState, TakesBack}
-use Rattle.qls_pool.proofs.Taken.{back_pool, with_file_back}
+use Rattle.qls_pool.proofs.Taken.{back_pool, back_ids, with_file_back}
 use Rattle.qls_pool.proofs.pool.Pool.give_back.Given as Given
 use Rattle.qls_pool.proofs.pool.Pool.give_back.Goals.{else-added-via-then-added+else-is_err, else-added-via-else-added}
 use Rattle.qls_pool.proofs.pool.Pool.give_back.Goals as goal
@@ -33,5 +33,11 @@ returns-else-added-clause-pool g c =
 pub returns-else-added-clause-orderly : goal.returns-else-added-clause-orderly
 returns-else-added-clause-orderly g c =
     back_orderly c.args.file c.relocate_home-moved.result _ _ c.pooled-pooled.ensures.legal
+    (subst (λ (f : PooledFile). Tells (Leads (Acts (put_home f)) (MayAct (put_home f)) c.relocate_home-moved.result) (g.S.Site.told c.args.site.now) (g.S.Site.told c.relocate_home-moved.new.site)) c.pooled-pooled.ensures.exact
+    c.relocate_home-moved.ensures.told)
+
+pub returns-else-added-clause-ids : goal.returns-else-added-clause-ids
+returns-else-added-clause-ids g c =
+    back_ids c.args.file c.relocate_home-moved.result _ _
     (subst (λ (f : PooledFile). Tells (Leads (Acts (put_home f)) (MayAct (put_home f)) c.relocate_home-moved.result) (g.S.Site.told c.args.site.now) (g.S.Site.told c.relocate_home-moved.new.site)) c.pooled-pooled.ensures.exact
     c.relocate_home-moved.ensures.told)
