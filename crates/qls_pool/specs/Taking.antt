@@ -76,6 +76,12 @@ Heads id h (Err e) old new =
     (since : List Moment) × (new.moments ≡ old.moments ++ since)
     × ((since ≡ []) ⊎ (since ≡ header_written id h old.now ∷ []) ⊎ (since ≡ header_written id h old.now ∷ header_written id h old.now ∷ []))
 
+-- one sync where the content is told and the header is stable, else one or none
+abbrev pub SyncsOnce : {X : Type 0} → Option Content → Result X SiteError → ℕ → ℕ → Type 0
+SyncsOnce (Some c) (Ok x) before now = now ≡ before + 1
+SyncsOnce (Some c) (Err e) before now = (before ≤ now) × (now ≤ before + 1)
+SyncsOnce None result before now = (before ≤ now) × (now ≤ before + 1)
+
 -- ---- places
 
 abbrev pub put_in_use : ℕ → Moment → Moment

@@ -4,7 +4,7 @@ ghost use Rattle.qls_site.specs.Content.{Tells, Leads, Acts, MayAct, Causes, Has
 ghost use Rattle.qls_filehdr.specs.Limits.{is_legal_header};
 ghost use Rattle.qls_pool.specs.Pools.{PoolState};
 ghost use Rattle.qls_pool.specs.Files.{HeadsBlank, BlankThere, HeadedThere, LinkedThere, RestsThere, IdsDiffer, IsPoolOf, OnDisk, Carries};
-ghost use Rattle.qls_pool.specs.Taking.{Heads, put_in_use};
+ghost use Rattle.qls_pool.specs.Taking.{Heads, SyncsOnce, put_in_use};
 ghost use Rattle.qls_pool.specs.Discipline.{Orderly, IsLeastOnDisk};
 
 use crate::pooled::PooledFile;
@@ -93,6 +93,8 @@ impl Blank {
         ensures headed { IfOk result (λ headed. headed ≡ record { id = self.id; header = header }) }
         ensures told { Tells (Heads self.id header result) (S.told site.old) (S.told site.new) }
         ensures cause { Causes (S.faults site.old) (S.faults site.new) result }
+        ensures syncs { SyncsOnce (S.told site.old) result (S.syncs site.old) (S.syncs site.new) }
+        ensures reads { S.reads site.new ≡ S.reads site.old }
         ensures there { IfOk result (λ headed. IfSome (S.told site.new) (OnDisk (HeadedThere headed))) }
         ensures pool { IfOk result (λ _. (pool : PoolState) (out : List ℕ) → Carries (IsPoolOf pool out) (IsPoolOf pool out) (S.told site.old) (S.told site.new)) }
         ensures least { IfOk result (λ _. Carries (IsLeastOnDisk header.part header.kib self.id) (IsLeastOnDisk header.part header.kib self.id) (S.told site.old) (S.told site.new)) }
@@ -113,6 +115,8 @@ fn write_header<S: Site>(site: &mut S, id: u64, header: &FileHeader) -> Result<(
     requires range { IfSome (S.told site.old) (HasRange id 0 4096) }
     ensures told { Tells (Heads id header.now result) (S.told site.old) (S.told site.new) }
     ensures cause { Causes (S.faults site.old) (S.faults site.new) result }
+    ensures syncs { SyncsOnce (S.told site.old) result (S.syncs site.old) (S.syncs site.new) }
+    ensures reads { S.reads site.new ≡ S.reads site.old }
 {
     let mut bytes = [0; 4096];
     header.encode_into(&mut bytes);
@@ -146,6 +150,8 @@ impl Headed {
         ensures linked { IfOk result (λ linked. linked ≡ self) }
         ensures told { Tells (Leads (Acts (put_in_use self.id)) (MayAct (put_in_use self.id)) result) (S.told site.old) (S.told site.new) }
         ensures cause { Causes (S.faults site.old) (S.faults site.new) result }
+        ensures syncs { S.syncs site.new ≡ S.syncs site.old }
+        ensures reads { S.reads site.new ≡ S.reads site.old }
         ensures there { IfOk result (λ linked. IfSome (S.told site.new) (OnDisk (LinkedThere linked))) }
         ensures pool { IfOk result (λ _. (pool : PoolState) (out : List ℕ) → Carries (IsPoolOf pool (self.id ∷ out)) (IsPoolOf pool out) (S.told site.old) (S.told site.new)) }
         ensures ids { IfOk result (λ _. Carries IdsDiffer IdsDiffer (S.told site.old) (S.told site.new)) }

@@ -87,6 +87,8 @@ impl Pool {
         ensures told { Tells (TakesBlank home self.old result) (S.told site.old) (S.told site.new) }
         ensures drawn { DrawsSerial result (N.drawn serials.old) (N.drawn serials.new) }
         ensures cause { TakeCauses (S.faults site.old) (S.faults site.new) (N.faults serials.old) (N.faults serials.new) result }
+        ensures syncs { S.syncs site.new ≡ S.syncs site.old }
+        ensures reads { S.reads site.new ≡ S.reads site.old }
         ensures there { IfOk result (λ blank. (out : List ℕ) → Carries (IsPoolOf self.old out) (BlankThere blank) (S.told site.old) (S.told site.new)) }
         ensures pool { IfOk result (λ blank. (out : List ℕ) → Carries (IsPoolOf self.old out) (IsPoolOf self.new (blank.id ∷ out)) (S.told site.old) (S.told site.new)) }
         ensures least { IfOk result (λ blank. Carries (IsWholePool self.old) (IsLeastOnDisk home.part home.kib blank.id) (S.told site.old) (S.told site.new)) }
@@ -116,6 +118,8 @@ impl Pool {
         ensures kept { IfErr result (λ _. self.new ≡ self.old) }
         ensures told { Tells (Obtained home self.old result) (S.told site.old) (S.told site.new) }
         ensures cause { Causes (S.faults site.old) (S.faults site.new) result }
+        ensures syncs { S.syncs site.new ≡ S.syncs site.old }
+        ensures reads { S.reads site.new ≡ S.reads site.old }
     {
         match least {
             Some(id) => {
@@ -144,6 +148,8 @@ impl Pool {
         ensures kept { IfErr result (λ _. self.new ≡ self.old) }
         ensures told { Tells (Obtained home self.old result) (S.told site.old) (S.told site.new) }
         ensures cause { Causes (S.faults site.old) (S.faults site.new) result }
+        ensures syncs { S.syncs site.new ≡ S.syncs site.old }
+        ensures reads { S.reads site.new ≡ S.reads site.old }
     {
         let id = self.greatest + 1;
         site.create(id, home.part, home.kib)?;
@@ -163,6 +169,8 @@ impl Pool {
         ensures kept { IfErr result (λ _. self.new ≡ self.old) }
         ensures told { Tells (Leads (Acts (put_back file.id file.header)) (MayAct (put_back file.id file.header)) result) (S.told site.old) (S.told site.new) }
         ensures cause { Causes (S.faults site.old) (S.faults site.new) result }
+        ensures syncs { S.syncs site.new ≡ S.syncs site.old }
+        ensures reads { S.reads site.new ≡ S.reads site.old }
         ensures pool { IfOk result (λ _. (out : List ℕ) → is_among file.id out ≡ false → Carries (IsPoolOf self.old out) (IsPoolOf self.new out) (S.told site.old) (S.told site.new)) }
         ensures ids { IfOk result (λ _. Carries IdsDiffer IdsDiffer (S.told site.old) (S.told site.new)) }
         ensures orderly { Orderly (LinkedThere file) (S.told site.old) (S.told site.new) }
@@ -182,6 +190,8 @@ fn relocate_home<S: Site>(site: &mut S, file: PooledFile) -> Result<(), SiteErro
     requires { IfSome (S.told site.old) (HasFile file.id) }
     ensures told { Tells (Leads (Acts (put_home file)) (MayAct (put_home file)) result) (S.told site.old) (S.told site.new) }
     ensures cause { Causes (S.faults site.old) (S.faults site.new) result }
+    ensures syncs { S.syncs site.new ≡ S.syncs site.old }
+    ensures reads { S.reads site.new ≡ S.reads site.old }
 {
     let PooledFile { part, kib, id } = file;
     site.relocate(id, Place::Empty { part, kib })?;
