@@ -22,7 +22,7 @@ use Rattle.qls_filehdr.specs.Header.{header_spelling}
 use Rattle.qls_meaning.specs.Journals.{is_in_use}
 use Rattle.qls_meaning.specs.Kept.{Differ, ids_of}
 use Rattle.qls_meaning.specs.Spent.{greatest_id, is_pool_place}
-use Rattle.qls_pool.specs.Files.{BlankFile, HeadedFile, HeadsBlank, HasHeader, IsBlank, IsHeaded, IsLinked, BlankThere, HeadedThere, LinkedThere, OnDisk, Carries, IsPoolOf}
+use Rattle.qls_pool.specs.Files.{BlankFile, HeadedFile, HeadsBlank, HasHeader, IsBlank, IsHeaded, IsLinked, IsAtRest, BlankThere, HeadedThere, LinkedThere, RestsThere, OnDisk, Carries, IsPoolOf}
 use Rattle.qls_pool.specs.Pools.{PoolState}
 use Rattle.qls_pool.specs.Taking.{header_written, header_synced, put_in_use, put_back, Heads}
 use Rattle.qls_pool.specs.Discipline.{IsLeastOnDisk, AddsPoolSteps, Orderly}
@@ -197,13 +197,13 @@ heads_least id h v part kib n x y e p =
 
 -- ---- the linked file
 
-linked_from : (h : HeadedFile) (d : Disk) (o : Option FileState) → file_of h.id d ≡ o → IsHeaded h o → LinkedThere h (relocate_at h.id InUse d)
+linked_from : (h : HeadedFile) (d : Disk) (o : Option FileState) → file_of h.id d ≡ o → IsHeaded h o → RestsThere h (relocate_at h.id InUse d)
 linked_from h d None e k = absurd k
 linked_from h d (Some f) e k =
-    subst (IsLinked h) (sym (own_change h.id (λ f. record f { place = InUse }) (λ f. refl) d f e)) (refl, record { size = k.2.size; stable = k.2.stable })
+    subst (IsAtRest h) (sym (own_change h.id (λ f. record f { place = InUse }) (λ f. refl) d f e)) (refl, k.1, record { size = k.2.size; stable = k.2.stable })
 
-pub linked_there : (h : HeadedFile) (x y : Content) → Acts (put_in_use h.id) x y → HeadedThere h x.now.disk → LinkedThere h y.now.disk
-linked_there h x y e k = subst (λ (c : Content). LinkedThere h c.now.disk) (sym e) (linked_from h x.now.disk (file_of h.id x.now.disk) refl k)
+pub linked_there : (h : HeadedFile) (x y : Content) → Acts (put_in_use h.id) x y → HeadedThere h x.now.disk → RestsThere h y.now.disk
+linked_there h x y e k = subst (λ (c : Content). RestsThere h c.now.disk) (sym e) (linked_from h x.now.disk (file_of h.id x.now.disk) refl k)
 
 pub links_pool : (id : ℕ) (pool : PoolState) (out : List ℕ) (x y : Content) → Acts (put_in_use id) x y → IsPoolOf pool (id ∷ out) x.now.disk → IsPoolOf pool out y.now.disk
 links_pool id pool out x y e p = subst (λ (c : Content). IsPoolOf pool out c.now.disk) (sym e) (pool_linked id x.now.disk pool out p)

@@ -1,5 +1,6 @@
-mod Order
-mod Disks
-mod Steps
-mod Calls
-mod Taken
+pub mod Order
+pub mod Disks
+pub mod Steps
+pub mod Calls
+pub mod Taken
+pub mod Others

@@ -2,3 +2,4 @@ pub mod Pools
 pub mod Files
 pub mod Taking
 pub mod Discipline
+pub mod Laws

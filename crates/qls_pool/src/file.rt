@@ -152,7 +152,7 @@ impl Headed {
         ensures cause { Causes (S.faults site.old) (S.faults site.new) result }
         ensures syncs { S.syncs site.new ≡ S.syncs site.old }
         ensures reads { S.reads site.new ≡ S.reads site.old }
-        ensures there { IfOk result (λ linked. IfSome (S.told site.new) (OnDisk (LinkedThere linked))) }
+        ensures there { IfOk result (λ linked. IfSome (S.told site.new) (OnDisk (RestsThere linked))) }
         ensures pool { IfOk result (λ _. (pool : PoolState) (out : List ℕ) → Carries (IsPoolOf pool (self.id ∷ out)) (IsPoolOf pool out) (S.told site.old) (S.told site.new)) }
         ensures ids { IfOk result (λ _. Carries IdsDiffer IdsDiffer (S.told site.old) (S.told site.new)) }
         ensures orderly { Orderly (IsLeastOnDisk self.header.part self.header.kib self.id) (S.told site.old) (S.told site.new) }

@@ -7,10 +7,12 @@
 
 mod fault;
 mod file;
+mod laws;
 mod pool;
 mod pooled;
 
 pub use fault::TakeFault;
 pub use file::{Blank, Headed, Linked};
+pub use laws::{data_writes_leave_a_file, other_calls_leave_a_file};
 pub use pool::Pool;
 pub use pooled::PooledFile;

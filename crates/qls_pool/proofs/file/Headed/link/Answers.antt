@@ -3,7 +3,7 @@ use Rattle.qls_site.specs.Content.{Tells, Acts, MayAct, Leads}
 use Rattle.qls_site.specs.declared.site.SiteError.{SiteError}
 use Rattle.qls_filehdr.specs.Limits.{is_legal_header}
 use Rattle.qls_pool.specs.Pools.{PoolState}
-use Rattle.qls_pool.specs.Files.{HeadedFile, HeadedThere, LinkedThere, OnDisk, Carries, IdsDiffer, IsPoolOf}
+use Rattle.qls_pool.specs.Files.{HeadedFile, HeadedThere, RestsThere, OnDisk, Carries, IdsDiffer, IsPoolOf}
 use Rattle.qls_pool.specs.Taking.{put_in_use}
 use Rattle.qls_pool.specs.Discipline.{IsLeastOnDisk, Orderly}
 use Rattle.qls_site.specs.declared.site.Place.TheVariants.{InUse}
@@ -24,7 +24,7 @@ returns-in_err-relocate-clause-orderly g c =
 pub returns-clause-there : goal.returns-clause-there
 returns-clause-there g c =
     let h : HeadedFile = record { id = c.self.inside.id; header = c.self.inside.header } in
-    told_then (Acts (put_in_use h.id)) (HeadedThere h) (LinkedThere h) _ _ c.in_ok-relocate.ensures.told
+    told_then (Acts (put_in_use h.id)) (HeadedThere h) (RestsThere h) _ _ c.in_ok-relocate.ensures.told
     (subst (λ (k : HeadedFile). IfSome (g.S.Site.told c.args.site.now) (OnDisk (HeadedThere k))) (sym c.self.view_is) c.requires.there) (linked_there h)
 
 pub returns-clause-pool : goal.returns-clause-pool

@@ -1,0 +1,87 @@
+-- Calls on other files, and writes to the data area of a file.
+use Rattle.std.proofs.Common.{◌≡◌, ℕ, ◌+◌, ◌≤◌, Bool, true, false, ◌==◌, List, [], ◌∷◌, ◌++◌, length, take, Option, Some, None, refl, sym, ap, ◌∙◌, subst, arith, option_map, replicate, ◌*◌}
+use Rattle.qls_model.specs.Limits.{file_size}
+use Rattle.qls_site.specs.declared.site.Place.{Place}
+use Rattle.qls_site.specs.declared.site.Place.TheVariants.{InUse, Empty}
+use Rattle.qls_site.specs.Disk.{Disk, FileState, Write, file_of, size_of, change_file, all_written, written, write_at, sync_at, relocate_at, create_at}
+use Rattle.qls_site.proofs.DiskLaws.{length-written, length-all_written, front-all_written}
+use Rattle.qls_site.proofs.Told.{KeepsId, file_of-change_file}
+use Rattle.qls_pool.specs.Pools.{PoolState}
+use Rattle.qls_pool.specs.Files.{BlankFile, HeadedFile, HasHeader, IsBlank, IsHeaded, IsLinked, IsAtRest, BlankThere, HeadedThere, LinkedThere, RestsThere, IsPoolOf}
+use Rattle.qls_pool.specs.Laws.{StaysAfter, StaysByOthers, DataIsWritten}
+use Rattle.qls_pool.proofs.Disks.{eqb_own, other-with, at_change, pool_kept}
+use Rattle.qls_pool.proofs.Steps.{own_change}
+
+not_both : (b : Bool) → b ≡ true → b ≡ false → ⊥
+not_both b e k = cc
+
+-- another file is found as before
+kept_file : (own id : ℕ) (c : FileState → FileState) → KeepsId c → (own == id) ≡ false → (d : Disk) → file_of id (change_file own c d) ≡ file_of id d
+kept_file own id c keeps apart d =
+    file_of-change_file id own c keeps d
+    ∙ sym (at_change own id c d (λ o p. o ≡ p) (λ e. refl) (λ f e k. absurd (not_both (own == id) (ap (λ n. n == id) e ∙ eqb_own id) apart)) (λ f e. refl))
+
+pub stays : (Q : Option FileState → Type 0) (id : ℕ) → StaysByOthers (λ d. Q (file_of id d)) id
+stays Q id own apart d h = (
+  λ at bytes. subst Q (sym (kept_file own id (λ f. record f { pending = f.pending ++ (record { at = at; bytes = bytes }) ∷ [] }) (λ f. refl) apart d)) h,
+  subst Q (sym (kept_file own id (λ f. record f { stable = all_written f.pending f.stable; pending = [] }) (λ f. refl) apart d)) h,
+  λ to. subst Q (sym (kept_file own id (λ f. record f { place = to }) (λ f. refl) apart d)) h,
+  λ part kib. subst Q (sym (other-with (new part kib) id apart d)) h,
+)
+  where
+    new : ℕ → ℕ → FileState
+    new part kib = record { id = own; place = Empty part kib; stable = replicate (4096 + 1024 * kib) 0; pending = [] }
+
+-- ---- data
+
+rest_is_linked : (h : HeadedFile) (o : Option FileState) → IsAtRest h o → IsLinked h o
+rest_is_linked h None k = k
+rest_is_linked h (Some f) k = (k.0, k.2)
+
+pub linked_at_rest : (h : HeadedFile) (d : Disk) → RestsThere h d → LinkedThere h d
+linked_at_rest h d k = rest_is_linked h (file_of h.id d) k
+
+abbrev write : ℕ → List ℕ → FileState → FileState
+write at bytes f = record f { pending = f.pending ++ (record { at = at; bytes = bytes }) ∷ [] }
+
+abbrev sync : FileState → FileState
+sync f = record f { stable = all_written f.pending f.stable; pending = [] }
+
+-- with nothing pending before, the write alone is seen
+seen_write : (at : ℕ) (bytes : List ℕ) (f : FileState) → f.pending ≡ [] → all_written (write at bytes f).pending f.stable ≡ written (record { at = at; bytes = bytes }) f.stable
+seen_write at bytes f e = ap (λ (ps : List Write). all_written (ps ++ (record { at = at; bytes = bytes }) ∷ []) f.stable) e
+
+stable_size : (f : FileState) → f.pending ≡ [] → size_of f ≡ length f.stable
+stable_size f e = ap (λ (ps : List Write). length (all_written ps f.stable)) e
+
+fits_in : (f : FileState) (at size kib : ℕ) → f.pending ≡ [] → size_of f ≡ file_size kib → at + size ≤ file_size kib → at + size ≤ length f.stable
+fits_in f at size kib e k h = omega (arith, stable_size f e, k, h)
+
+data_from : (h : HeadedFile) (at : ℕ) (bytes : List ℕ) (d : Disk) → 4096 ≤ at → at + length bytes ≤ file_size h.header.kib → (o : Option FileState) → file_of h.id d ≡ o → IsAtRest h o → DataIsWritten h at bytes d
+data_from h at bytes d low high None e k = absurd k
+data_from h at bytes d low high (Some f) e k =
+    let w : Write = record { at = at; bytes = bytes } in
+    let fits : at + length bytes ≤ length f.stable = fits_in f at (length bytes) h.header.kib k.1 k.2.size high in
+    let same : size_of (write at bytes f) ≡ size_of f = ap length (seen_write at bytes f k.1) ∙ length-written w f.stable fits ∙ sym (stable_size f k.1) in
+    let wrote : file_of h.id (write_at h.id at bytes d) ≡ Some (write at bytes f) = own_change h.id (write at bytes) (λ g. refl) d f e in
+    let found : file_of h.id (sync_at h.id (write_at h.id at bytes d)) ≡ Some (sync (write at bytes f)) = own_change h.id sync (λ g. refl) (write_at h.id at bytes d) (write at bytes f) wrote in
+    record {
+      linked = subst (IsLinked h) (sym wrote) (k.0, record { size = same ∙ k.2.size; stable = k.2.stable });
+      rests = subst (IsAtRest h) (sym found) (
+        k.0,
+        refl,
+        record {
+          size = same ∙ k.2.size;
+          stable = ap (take 4096) (seen_write at bytes f k.1) ∙ front-all_written 4096 (w ∷ []) f.stable (low, tt) (fits, tt) ∙ k.2.stable;
+        },
+      );
+      pool = λ pool out p.
+          pool_kept h.id sync (λ g. refl) (λ g. refl) (write_at h.id at bytes d) (λ g is. refl) pool out
+          (pool_kept h.id (write at bytes) (λ g. refl) (λ g. refl) d (λ g is. subst (λ (x : FileState). size_of (write at bytes x) ≡ size_of x) (same_file f g (sym e ∙ is)) same) pool out p);
+    }
+  where
+    same_file : (f g : FileState) → ◌≡◌ {A = Option FileState} (Some f) (Some g) → f ≡ g
+    same_file f g e = cc
+
+pub data_is_written : (h : HeadedFile) (at : ℕ) (bytes : List ℕ) (d : Disk) → 4096 ≤ at → at + length bytes ≤ file_size h.header.kib → RestsThere h d → DataIsWritten h at bytes d
+data_is_written h at bytes d low high k = data_from h at bytes d low high (file_of h.id d) refl k

@@ -1,0 +1,20 @@
+// Laws of a file's states: what other calls leave of them.
+ghost use Rattle.std.specs.Prelude.{ℕ, ◌+◌, ◌≤◌, List, length};
+ghost use Rattle.qls_model.specs.Limits.{file_size};
+ghost use Rattle.qls_site.specs.Disk.{Disk};
+ghost use Rattle.qls_pool.specs.Files.{BlankFile, HeadedFile, BlankThere, HeadedThere, LinkedThere, RestsThere};
+ghost use Rattle.qls_pool.specs.Laws.{StaysByOthers, DataIsWritten};
+
+/// A file stays as its value names it whatever calls are made on other files: a header that is stable stays stable.
+pub fn other_calls_leave_a_file()
+    ensures blank { (b : BlankFile) → StaysByOthers (BlankThere b) b.id }
+    ensures headed { (h : HeadedFile) → StaysByOthers (HeadedThere h) h.id }
+    ensures linked { (h : HeadedFile) → StaysByOthers (LinkedThere h) h.id }
+    ensures rests { (h : HeadedFile) → StaysByOthers (RestsThere h) h.id }
+{}
+
+/// A file at rest is linked, and stays so where its data area is written and synced.
+pub fn data_writes_leave_a_file()
+    ensures linked { (h : HeadedFile) (d : Disk) → RestsThere h d → LinkedThere h d }
+    ensures written { (h : HeadedFile) (at : ℕ) (bytes : List ℕ) (d : Disk) → 4096 ≤ at → at + length bytes ≤ file_size h.header.kib → RestsThere h d → DataIsWritten h at bytes d }
+{}
