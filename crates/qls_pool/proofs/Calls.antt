@@ -222,3 +222,11 @@ pub back_orderly : {X : Type 0} (h : HeadedFile) (r : Result X SiteError) (a b :
 back_orderly h r a b legal t =
     orderly_of (Leads (Acts (put_back h.id h.header)) (MayAct (put_back h.id h.header)) r) (LinkedThere h) a b t
     (λ x y l differ k. adds_leads (put_back h.id h.header) r x y l differ (back_step h x.now legal differ k))
+
+-- ---- conditions of the next call
+
+pub carried : (R : Content → Content → Type 0) (P Q : Disk → Type 0) (a b : Option Content) → Tells R a b → Carries P Q a b → IfSome a (OnDisk P) → IfSome b (OnDisk Q)
+carried R P Q None None t c h = tt
+carried R P Q None (Some y) t c h = absurd t
+carried R P Q (Some x) None t c h = absurd t
+carried R P Q (Some x) (Some y) t c h = c h

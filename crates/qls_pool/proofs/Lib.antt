@@ -4,3 +4,4 @@ pub mod Steps
 pub mod Calls
 pub mod Taken
 pub mod Others
+mod TwoFiles

@@ -5,9 +5,12 @@ use Rattle.qls_site.specs.declared.site.Place.{Place}
 use Rattle.qls_site.specs.declared.site.Place.TheVariants.{InUse, Empty}
 use Rattle.qls_site.specs.Disk.{Disk, FileState, Write, file_of, size_of, change_file, all_written, written, write_at, sync_at, relocate_at, create_at}
 use Rattle.qls_site.proofs.DiskLaws.{length-written, length-all_written, front-all_written}
-use Rattle.qls_site.proofs.Told.{KeepsId, file_of-change_file}
+use Rattle.std.proofs.Common.{IfSome}
+use Rattle.qls_site.specs.Content.{Content, Tells, Acts, HasRange, HasFile, InFile, on_disk}
+use Rattle.qls_site.proofs.Told.{KeepsId, file_of-change_file, Tells-then, IfSome-after, HasFile-write}
+use Rattle.qls_pool.proofs.Calls.{told_then, carries_with}
 use Rattle.qls_pool.specs.Pools.{PoolState}
-use Rattle.qls_pool.specs.Files.{BlankFile, HeadedFile, HasHeader, IsBlank, IsHeaded, IsLinked, IsAtRest, BlankThere, HeadedThere, LinkedThere, RestsThere, IsPoolOf}
+use Rattle.qls_pool.specs.Files.{BlankFile, HeadedFile, HasHeader, IsBlank, IsHeaded, IsLinked, IsAtRest, BlankThere, HeadedThere, LinkedThere, RestsThere, OnDisk, Carries, IsPoolOf}
 use Rattle.qls_pool.specs.Laws.{StaysAfter, StaysByOthers, DataIsWritten}
 use Rattle.qls_pool.proofs.Disks.{eqb_own, other-with, at_change, pool_kept}
 use Rattle.qls_pool.proofs.Steps.{own_change}
@@ -85,3 +88,35 @@ data_from h at bytes d low high (Some f) e k =
 
 pub data_is_written : (h : HeadedFile) (at : ℕ) (bytes : List ℕ) (d : Disk) → 4096 ≤ at → at + length bytes ≤ file_size h.header.kib → RestsThere h d → DataIsWritten h at bytes d
 data_is_written h at bytes d low high k = data_from h at bytes d low high (file_of h.id d) refl k
+
+-- ---- the two calls that write data
+
+range_at_rest : (h : HeadedFile) (at n : ℕ) → at + n ≤ file_size h.header.kib → (o : Option FileState) → IsAtRest h o → InFile at n o
+range_at_rest h at n fits None k = k
+range_at_rest h at n fits (Some f) k = subst (λ s. at + n ≤ s) (sym k.2.size) fits
+
+pub data_range : (h : HeadedFile) (at n : ℕ) → at + n ≤ file_size h.header.kib → (o : Option Content) → IfSome o (OnDisk (RestsThere h)) → IfSome o (HasRange h.id at n)
+data_range h at n fits None k = tt
+data_range h at n fits (Some x) k = range_at_rest h at n fits (file_of h.id x.now.disk) k
+
+abbrev pub WritesData : HeadedFile → ℕ → List ℕ → Content → Content → Type 0
+WritesData h at bytes x z = z.now.disk ≡ sync_at h.id (write_at h.id at bytes x.now.disk)
+
+pub data_told : (h : HeadedFile) (at : ℕ) (bytes : List ℕ) (a b c : Option Content) → Tells (Acts (on_disk (write_at h.id at bytes))) a b → Tells (Acts (on_disk (sync_at h.id))) b c → Tells (WritesData h at bytes) a c
+data_told h at bytes a b c t u =
+    Tells-then (Acts (on_disk (write_at h.id at bytes))) (Acts (on_disk (sync_at h.id))) (WritesData h at bytes) a b c t u
+    (λ x y z k l. ap (λ (m : Content). m.now.disk) l ∙ ap (λ (m : Content). sync_at h.id m.now.disk) k)
+
+pub data_rests : (h : HeadedFile) (at : ℕ) (bytes : List ℕ) → 4096 ≤ at → at + length bytes ≤ file_size h.header.kib → (a c : Option Content) → Tells (WritesData h at bytes) a c → IfSome a (OnDisk (RestsThere h))
+    → IfSome c (OnDisk (RestsThere h))
+data_rests h at bytes low high a c t k =
+    told_then (WritesData h at bytes) (RestsThere h) (RestsThere h) a c t k (λ x y e r. subst (RestsThere h) (sym e) (data_is_written h at bytes x.now.disk low high r).rests)
+
+pub data_pool : (h : HeadedFile) (at : ℕ) (bytes : List ℕ) → 4096 ≤ at → at + length bytes ≤ file_size h.header.kib → (a c : Option Content) → Tells (WritesData h at bytes) a c → IfSome a (OnDisk (RestsThere h))
+    → (pool : PoolState) (out : List ℕ) → Carries (IsPoolOf pool out) (IsPoolOf pool out) a c
+data_pool h at bytes low high a c t k pool out =
+    carries_with (WritesData h at bytes) (RestsThere h) (IsPoolOf pool out) (IsPoolOf pool out) a c t k
+    (λ x y e r p. subst (IsPoolOf pool out) (sym e) ((data_is_written h at bytes x.now.disk low high r).pool pool out p))
+
+pub after_write : (id at : ℕ) (bytes : List ℕ) (a b : Option Content) → Tells (Acts (on_disk (write_at id at bytes))) a b → IfSome a (HasRange id at (length bytes)) → IfSome b (HasFile id)
+after_write id at bytes a b t h = IfSome-after (Acts (on_disk (write_at id at bytes))) (HasRange id at (length bytes)) (HasFile id) a b t h (HasFile-write id at bytes)

@@ -381,13 +381,13 @@ listing_any part kib id (f ∷ d) h =
 
 pub opens_pool : (most : ℕ) (listed : List FileAt) (pool : PoolState) → Opens most listed pool → (d : Disk) → IsListingOf most listed d → IsPoolOf pool [] d
 opens_pool most listed pool o d h = record {
-  greatest = o.greatest ∙ h.greatest;
+  greatest = o.greatest ∙ h.fits.greatest;
   files = λ part kib id.
       let t : FileAt → Bool = is_listed_in part kib id in
       let away : (x : FileAt) → is_listed_empty x ≡ false → t x ≡ false = λ x e. used_elsewhere part kib id x.place x.id e in
       o.files part kib id ∙ sym (any_filter t is_listed_empty away listed) ∙ ap (list_any t) h.empties ∙ any_filter t is_listed_empty away (listing d)
-      ∙ listing_any part kib id d h.differ ∙ sym (and_true (is_at part kib (file_of id d)));
-  sizes = h.sizes;
+      ∙ listing_any part kib id d h.fits.differ ∙ sym (and_true (is_at part kib (file_of id d)));
+  sizes = h.fits.sizes;
 }
 
 ids_by : (home : PoolId) (pool : PoolState) (x y : Content) → IsWholePool pool x.now.disk → (o : Option ℕ) → Obtains home pool.greatest o x y → Differ (ids_of (full y.now.disk))

@@ -101,12 +101,16 @@ IdsDiffer d = Differ (ids_of (full d))
 abbrev pub is_listed_empty : FileAt → Bool
 is_listed_empty f = not (is_in_use f.place)
 
--- the greatest id is the disk's, and the list has the disk's empty files
-pub record IsListingOf (most : ℕ) (listed : List FileAt) (d : Disk) : Type 0 where
+-- this is the disk's greatest id, ids differ, and each empty file has the size of its pool
+pub record FitsPools (most : ℕ) (d : Disk) : Type 0 where
   pub greatest : most ≡ greatest_id d
-  pub empties : filter is_listed_empty listed ≡ filter is_listed_empty (listing d)
   pub differ : IdsDiffer d
   pub sizes : (id : ℕ) → IsSized (file_of id d)
+
+-- and the list has the disk's empty files, in its order
+pub record IsListingOf (most : ℕ) (listed : List FileAt) (d : Disk) : Type 0 where
+  pub fits : FitsPools most d
+  pub empties : filter is_listed_empty listed ≡ filter is_listed_empty (listing d)
 
 -- ---- conditions on what a site tells
 

@@ -16,3 +16,6 @@ pub use file::{Blank, Headed, Linked};
 pub use laws::{data_writes_leave_a_file, other_calls_leave_a_file};
 pub use pool::Pool;
 pub use pooled::PooledFile;
+
+#[cfg(test)]
+mod tests;
