@@ -1,41 +1,34 @@
 -- What each call leaves: the files as the values name them, the pool's condition, and the discipline.
-use Rattle.std.proofs.Common.{◌≡◌, ◌⊎◌, inl, inr, ℕ, ◌<◌, ◌≤◌, ◌+◌, ◌*◌, ◌-◌, Bool, true, false, not, cond, ◌&&◌, ◌||◌, ◌==◌, List, [], ◌∷◌, ◌++◌, map, filter, length, take, drop, replicate, Option, Some, None, Result, Ok, Err, IfSome, IsTrue, IsErr, refl, sym, ap, ◌∙◌, subst, arith, max, length-append, append_assoc, append-nil}
-use Rattle.std.proofs.lemmas.Bool.Decides.{nat_tests}
-use Rattle.std.proofs.Math.ListN.{length-replicate}
+use Rattle.std.proofs.Common.{◌≡◌, inl, inr, ℕ, ◌≤◌, ◌+◌, true, false, cond, ◌==◌, List, [], ◌∷◌, ◌++◌, length, take, drop, Option, Some, None, Result, Ok, Err, IfSome, IsTrue, IsErr, refl, sym, ap, ◌∙◌, subst, arith, append_assoc, append-nil}
 use Rattle.std.proofs.Math.Seq.{take-append_seam}
 use Rattle.std.specs.Result.{IsErrAnd}
-use Rattle.std.specs.List.{list_any, AllByRecursion}
-use Rattle.qls_model.specs.declared.machine.PoolId.{PoolId}
 use Rattle.qls_model.specs.Limits.{file_size}
 use Rattle.qls_site.specs.declared.site.SiteError.{SiteError}
 use Rattle.qls_site.specs.declared.site.SiteError.TheVariants.{Failed, Memory}
-use Rattle.qls_site.specs.declared.site.FileAt.{FileAt}
-use Rattle.qls_site.specs.declared.site.Place.{Place}
 use Rattle.qls_site.specs.declared.site.Place.TheVariants.{InUse, Empty}
-use Rattle.qls_site.specs.Disk.{Disk, FileState, Write, file_of, full, listing, size_of, changed, change_file, with_file, all_written, written, create_at, write_at, sync_at, relocate_at}
+use Rattle.qls_site.specs.Disk.{Disk, FileState, Write, file_of, full, size_of, changed, change_file, all_written, written, write_at, sync_at, relocate_at}
 use Rattle.qls_site.specs.Content.{Moment, Content, Tells, Acts, Stays, MayAct, Leads, on_disk}
 use Rattle.qls_site.proofs.DiskLaws.{length-written}
-use Rattle.qls_site.proofs.Told.{KeepsId, file_of-change_file, file_of-with_file, Tells-weaken, Tells-then}
+use Rattle.qls_site.proofs.Told.{KeepsId, Tells-weaken, Tells-then}
 use Rattle.qls_filehdr.specs.declared.FileHeader.{FileHeader}
 use Rattle.qls_filehdr.specs.Limits.{is_legal_header}
 use Rattle.qls_filehdr.specs.Header.{header_spelling}
-use Rattle.qls_meaning.specs.Journals.{is_in_use}
 use Rattle.qls_meaning.specs.Kept.{Differ, ids_of}
-use Rattle.qls_meaning.specs.Spent.{greatest_id, is_pool_place}
-use Rattle.qls_pool.specs.Files.{BlankFile, HeadedFile, HeadsBlank, HasHeader, IsBlank, IsHeaded, IsLinked, IsAtRest, BlankThere, HeadedThere, LinkedThere, RestsThere, OnDisk, Carries, IsPoolOf}
+use Rattle.qls_meaning.specs.Spent.{is_pool_place}
+use Rattle.qls_pool.specs.Files.{BlankFile, HeadedFile, HeadsBlank, IsBlank, IsHeaded, IsAtRest, BlankThere, HeadedThere, LinkedThere, RestsThere, OnDisk, Carries, IsPoolOf}
 use Rattle.qls_pool.specs.Pools.{PoolState}
 use Rattle.qls_pool.specs.Taking.{header_written, header_synced, put_in_use, put_back, Heads}
-use Rattle.qls_pool.specs.Discipline.{IsLeastOnDisk, AddsPoolSteps, Orderly}
-use Rattle.qls_pool.proofs.Disks.{eqb_is, eqb_own, same_id, found_id, pool_kept, pool_linked}
-use Rattle.qls_pool.proofs.Steps.{all_map, own_change, header_length, adds_leads, link_step, back_step, heads_steps}
+use Rattle.qls_pool.specs.Discipline.{IsLeastOnDisk, AddsPoolSteps, StepsBy, Orderly}
+use Rattle.qls_pool.proofs.Disks.{pool_kept, pool_linked}
+use Rattle.qls_pool.proofs.Steps.{all_map, own_change, header_length, adds_none, adds_leads, link_step, back_step, heads_steps}
 
 -- ---- told content
 
-pub orderly_of : (R : Content → Content → Type 0) (P : Disk → Type 0) (a b : Option Content) → Tells R a b
-    → ((x y : Content) → R x y → Differ (ids_of (full x.now.disk)) → P x.now.disk → AddsPoolSteps x y) → Orderly P a b
-orderly_of R P None b r s = tt
-orderly_of R P (Some x) None r s = tt
-orderly_of R P (Some x) (Some y) r s = s x y r
+pub orderly_of : {X E : Type 0} (R : Content → Content → Type 0) (P : Disk → Type 0) (r : Result X E) (a b : Option Content) → Tells R a b
+    → ((x y : Content) → R x y → Differ (ids_of (full x.now.disk)) → P x.now.disk → StepsBy r x y) → Orderly P r a b
+orderly_of R P r None b t s = tt
+orderly_of R P r (Some x) None t s = tt
+orderly_of R P r (Some x) (Some y) t s = s x y t
 
 pub carries_of : (R : Content → Content → Type 0) (P Q : Disk → Type 0) (a b : Option Content) → Tells R a b → ((x y : Content) → R x y → P x.now.disk → Q y.now.disk) → Carries P Q a b
 carries_of R P Q None b r s = tt
@@ -55,11 +48,23 @@ carries_with R H P Q None b r h s = tt
 carries_with R H P Q (Some x) None r h s = tt
 carries_with R H P Q (Some x) (Some y) r h s = s x y r h
 
-pub orderly_with : (R : Content → Content → Type 0) (H P : Disk → Type 0) (a b : Option Content) → Tells R a b → IfSome a (OnDisk H)
-    → ((x y : Content) → R x y → H x.now.disk → Differ (ids_of (full x.now.disk)) → P x.now.disk → AddsPoolSteps x y) → Orderly P a b
-orderly_with R H P None b r h s = tt
-orderly_with R H P (Some x) None r h s = tt
-orderly_with R H P (Some x) (Some y) r h s = s x y r h
+pub orderly_with : {X E : Type 0} (R : Content → Content → Type 0) (H P : Disk → Type 0) (r : Result X E) (a b : Option Content) → Tells R a b → IfSome a (OnDisk H)
+    → ((x y : Content) → R x y → H x.now.disk → Differ (ids_of (full x.now.disk)) → P x.now.disk → StepsBy r x y) → Orderly P r a b
+orderly_with R H P r None b t h s = tt
+orderly_with R H P r (Some x) None t h s = tt
+orderly_with R H P r (Some x) (Some y) t h s = s x y t h
+
+pub by_err : {X E : Type 0} (r : Result X E) (x y : Content) → IsErr r → AddsPoolSteps x y → StepsBy r x y
+by_err {X} {E} (Ok v) x y e h = absurd (not_ok v e)
+  where
+    not_ok : (v : X) → IsErr {T = X} {E = E} (Ok v) → ⊥
+    not_ok v e = cc
+by_err (Err f) x y e h = h
+
+-- an error before any call
+pub orderly_same : {X E : Type 0} (P : Disk → Type 0) (r : Result X E) (a : Option Content) → IsErr r → Orderly P r a a
+orderly_same P r None e = tt
+orderly_same P r (Some x) e = λ differ p. by_err r x x e (adds_none x x refl)
 
 -- the error that a call handed on
 pub handed_on : {X : Type 0} (r : Result X SiteError) (e : SiteError) → IsErr r × IsErrAnd r (λ f. f ≡ e) → r ≡ Err e
@@ -209,18 +214,18 @@ pub links_pool : (id : ℕ) (pool : PoolState) (out : List ℕ) (x y : Content) 
 links_pool id pool out x y e p = subst (λ (c : Content). IsPoolOf pool out c.now.disk) (sym e) (pool_linked id x.now.disk pool out p)
 
 pub link_orderly : {X : Type 0} (h : HeadedFile) (r : Result X SiteError) (a b : Option Content) → IsTrue (is_legal_header h.header) → Tells (Leads (Acts (put_in_use h.id)) (MayAct (put_in_use h.id)) r) a b
-    → IfSome a (OnDisk (HeadedThere h)) → Orderly (IsLeastOnDisk h.header.part h.header.kib h.id) a b
+    → IfSome a (OnDisk (HeadedThere h)) → Orderly (IsLeastOnDisk h.header.part h.header.kib h.id) r a b
 link_orderly h r a b legal t there =
-    orderly_with (Leads (Acts (put_in_use h.id)) (MayAct (put_in_use h.id)) r) (HeadedThere h) (IsLeastOnDisk h.header.part h.header.kib h.id) a b t there
+    orderly_with (Leads (Acts (put_in_use h.id)) (MayAct (put_in_use h.id)) r) (HeadedThere h) (IsLeastOnDisk h.header.part h.header.kib h.id) r a b t there
     (λ x y l k differ p. adds_leads (put_in_use h.id) r x y l differ (link_step h x.now legal differ k p))
 
-pub head_orderly : {X : Type 0} (b : BlankFile) (h : FileHeader) (r : Result X SiteError) (o p : Option Content) → IsTrue (is_legal_header h) → Tells (Heads b.id h r) o p → Orderly (BlankThere b) o p
-head_orderly b h r o p legal t = orderly_of (Heads b.id h r) (BlankThere b) o p t (λ x y l differ k. heads_steps b h r x y legal l differ k)
+pub head_orderly : {X : Type 0} (b : BlankFile) (h : FileHeader) (r : Result X SiteError) (o p : Option Content) → IsTrue (is_legal_header h) → Tells (Heads b.id h r) o p → Orderly (BlankThere b) r o p
+head_orderly b h r o p legal t = orderly_of (Heads b.id h r) (BlankThere b) r o p t (λ x y l differ k. heads_steps b h r x y legal l differ k)
 
 pub back_orderly : {X : Type 0} (h : HeadedFile) (r : Result X SiteError) (a b : Option Content) → IsTrue (is_legal_header h.header) → Tells (Leads (Acts (put_back h.id h.header)) (MayAct (put_back h.id h.header)) r) a b
-    → Orderly (LinkedThere h) a b
+    → Orderly (LinkedThere h) r a b
 back_orderly h r a b legal t =
-    orderly_of (Leads (Acts (put_back h.id h.header)) (MayAct (put_back h.id h.header)) r) (LinkedThere h) a b t
+    orderly_of (Leads (Acts (put_back h.id h.header)) (MayAct (put_back h.id h.header)) r) (LinkedThere h) r a b t
     (λ x y l differ k. adds_leads (put_back h.id h.header) r x y l differ (back_step h x.now legal differ k))
 
 -- ---- conditions of the next call

@@ -1,17 +1,11 @@
 -- Files of a disk after one call, and what a pool's condition is then.
-use Rattle.std.proofs.Common.{◌≡◌, ◌⊎◌, inl, inr, ℕ, ◌<◌, ◌≤◌, ◌+◌, ◌*◌, Bool, true, false, not, cond, ◌&&◌, ◌||◌, ◌==◌, eqb, ltb, nat_eq, List, [], ◌∷◌, ◌++◌, map, length, take, drop, replicate, Option, Some, None, refl, sym, ap, ◌∙◌, subst, arith, option_map, max, length-append}
+use Rattle.std.proofs.Common.{◌≡◌, ℕ, ◌<◌, Bool, true, false, not, cond, ◌&&◌, ◌||◌, ◌==◌, ltb, List, [], ◌∷◌, Option, Some, None, refl, sym, ap, ◌∙◌, subst, arith, option_map, max}
 use Rattle.std.proofs.lemmas.Bool.Decides.{nat_tests}
-use Rattle.std.proofs.Math.ListN.{length-replicate}
-use Rattle.std.specs.List.{list_any, AllByRecursion}
-use Rattle.qls_model.specs.declared.machine.PoolId.{PoolId}
-use Rattle.qls_model.specs.Limits.{file_size}
-use Rattle.qls_site.specs.declared.site.Place.{Place}
-use Rattle.qls_site.specs.declared.site.Place.TheVariants.{InUse, Empty}
-use Rattle.qls_site.specs.Disk.{Disk, FileState, Write, file_of, size_of, changed, change_file, with_file, all_written, written, create_at, write_at, sync_at, relocate_at}
-use Rattle.qls_site.proofs.Told.{KeepsId, file_of-change_file, file_of-with_file}
+use Rattle.qls_site.specs.declared.site.Place.TheVariants.{InUse}
+use Rattle.qls_site.specs.Disk.{Disk, FileState, file_of, size_of, changed, change_file, with_file, relocate_at}
+use Rattle.qls_site.proofs.Told.{KeepsId, file_of-change_file}
 use Rattle.qls_meaning.specs.Spent.{greatest_id, is_pool_place}
-use Rattle.qls_pool.specs.declared.pooled.PooledFile.{PooledFile}
-use Rattle.qls_pool.specs.Pools.{PoolState, is_in, is_file, has, least_id, first_or, greatest_with, HandsOut, TakesBack}
+use Rattle.qls_pool.specs.Pools.{PoolState}
 use Rattle.qls_pool.specs.Files.{is_at, is_among, FitsPlace, IsSized, IsPoolOf}
 
 -- ---- ids

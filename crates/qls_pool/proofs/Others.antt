@@ -1,17 +1,16 @@
 -- Calls on other files, and writes to the data area of a file.
-use Rattle.std.proofs.Common.{◌≡◌, ℕ, ◌+◌, ◌≤◌, Bool, true, false, ◌==◌, List, [], ◌∷◌, ◌++◌, length, take, Option, Some, None, refl, sym, ap, ◌∙◌, subst, arith, option_map, replicate, ◌*◌}
+use Rattle.std.proofs.Common.{◌≡◌, ℕ, ◌+◌, ◌≤◌, Bool, true, false, ◌==◌, List, [], ◌∷◌, ◌++◌, length, take, Option, Some, None, refl, sym, ap, ◌∙◌, subst, arith, replicate, ◌*◌}
 use Rattle.qls_model.specs.Limits.{file_size}
-use Rattle.qls_site.specs.declared.site.Place.{Place}
-use Rattle.qls_site.specs.declared.site.Place.TheVariants.{InUse, Empty}
-use Rattle.qls_site.specs.Disk.{Disk, FileState, Write, file_of, size_of, change_file, all_written, written, write_at, sync_at, relocate_at, create_at}
-use Rattle.qls_site.proofs.DiskLaws.{length-written, length-all_written, front-all_written}
+use Rattle.qls_site.specs.declared.site.Place.TheVariants.{Empty}
+use Rattle.qls_site.specs.Disk.{Disk, FileState, Write, file_of, size_of, change_file, all_written, written, write_at, sync_at}
+use Rattle.qls_site.proofs.DiskLaws.{length-written, front-all_written}
 use Rattle.std.proofs.Common.{IfSome}
 use Rattle.qls_site.specs.Content.{Content, Tells, Acts, HasRange, HasFile, InFile, on_disk}
 use Rattle.qls_site.proofs.Told.{KeepsId, file_of-change_file, Tells-then, IfSome-after, HasFile-write}
 use Rattle.qls_pool.proofs.Calls.{told_then, carries_with}
 use Rattle.qls_pool.specs.Pools.{PoolState}
-use Rattle.qls_pool.specs.Files.{BlankFile, HeadedFile, HasHeader, IsBlank, IsHeaded, IsLinked, IsAtRest, BlankThere, HeadedThere, LinkedThere, RestsThere, OnDisk, Carries, IsPoolOf}
-use Rattle.qls_pool.specs.Laws.{StaysAfter, StaysByOthers, DataIsWritten}
+use Rattle.qls_pool.specs.Files.{HeadedFile, IsLinked, IsAtRest, LinkedThere, RestsThere, OnDisk, Carries, IsPoolOf}
+use Rattle.qls_pool.specs.Laws.{StaysByOthers, DataIsWritten}
 use Rattle.qls_pool.proofs.Disks.{eqb_own, other-with, at_change, pool_kept}
 use Rattle.qls_pool.proofs.Steps.{own_change}
 

@@ -1,10 +1,9 @@
 -- Steps of the pool's discipline, one for each call.
-use Rattle.std.proofs.Common.{◌≡◌, ◌⊎◌, inl, inr, ℕ, ◌<◌, ◌≤◌, ◌+◌, ◌*◌, ◌-◌, Bool, true, false, not, cond, ◌&&◌, ◌||◌, ◌==◌, eqb, ltb, nat_eq, List, [], ◌∷◌, ◌++◌, map, length, take, drop, replicate, Option, Some, None, Result, Ok, Err, IsTrue, refl, sym, ap, ◌∙◌, subst, arith, option_map, codes, length-append, append_assoc, append-nil}
+use Rattle.std.proofs.Common.{◌≡◌, inl, inr, ℕ, ◌<◌, ◌≤◌, ◌+◌, ◌*◌, ◌-◌, Bool, true, false, cond, ◌==◌, ltb, nat_eq, List, [], ◌∷◌, ◌++◌, map, length, take, replicate, Option, Some, Result, Ok, Err, IsTrue, refl, sym, ap, ◌∙◌, subst, arith, option_map, codes, length-append, append_assoc, append-nil}
 use Rattle.std.proofs.lemmas.List.{append_cancel_left}
 use Rattle.std.proofs.lemmas.Bool.Decides.{nat_tests}
 use Rattle.std.proofs.Math.ListN.{length-replicate}
 use Rattle.std.specs.List.{list_any, AllByRecursion}
-use Rattle.qls_model.specs.declared.machine.PoolId.{PoolId}
 use Rattle.qls_model.specs.Limits.{file_size}
 use Rattle.qls_shape.specs.Fields.{u16, u32, u64}
 use Rattle.qls_shape.specs.Adler.{adler_of}
@@ -12,21 +11,21 @@ use Rattle.qls_site.specs.declared.site.SiteError.{SiteError}
 use Rattle.qls_site.specs.declared.site.SiteError.TheVariants.{Failed, Memory}
 use Rattle.qls_site.specs.declared.site.Place.{Place}
 use Rattle.qls_site.specs.declared.site.Place.TheVariants.{InUse, Empty}
-use Rattle.qls_site.specs.Disk.{Disk, FileState, Write, file_of, full, size_of, changed, change_file, with_file, all_written, written, create_at, write_at, sync_at, relocate_at}
+use Rattle.qls_site.specs.Disk.{Disk, FileState, Write, file_of, full, size_of, changed, change_file, with_file, all_written, create_at, write_at, sync_at, relocate_at}
 use Rattle.qls_site.specs.Content.{Moment, Content, Acts, MayAct, Leads, on_disk}
-use Rattle.qls_site.proofs.DiskLaws.{length-written}
 use Rattle.qls_site.proofs.Told.{KeepsId, file_of-change_file}
 use Rattle.qls_filehdr.specs.declared.FileHeader.{FileHeader}
 use Rattle.qls_filehdr.specs.Limits.{is_legal_header}
 use Rattle.qls_filehdr.specs.Header.{header_of, header_spelling, header_front, version_of, kind_number}
 use Rattle.qls_filehdr.proofs.HeaderTrip.{legal_parts, name_fits, header_of-header_spelling}
+use Rattle.qls_meaning.specs.History.{last_of}
 use Rattle.qls_meaning.specs.Journals.{is_in_use}
 use Rattle.qls_meaning.specs.Kept.{Differ, ids_of}
 use Rattle.qls_meaning.specs.Spent.{greatest_id, is_pool_place}
-use Rattle.qls_meaning.specs.Orderly.{IsNewFile, WasLeast, NamesPool, GoesHome}
-use Rattle.qls_pool.specs.Files.{BlankFile, HeadedFile, HeadsBlank, HasHeader, IsBlank, IsHeaded, IsLinked, BlankThere, HeadedThere, LinkedThere}
+use Rattle.qls_meaning.specs.Orderly.{WasLeast, NamesPool}
+use Rattle.qls_pool.specs.Files.{BlankFile, HeadedFile, HasHeader, IsBlank, IsHeaded, IsLinked, BlankThere, HeadedThere, LinkedThere}
 use Rattle.qls_pool.specs.Taking.{header_written, header_synced, put_in_use, put_back, Heads}
-use Rattle.qls_pool.specs.Discipline.{IsPutInUse, IsPutBack, MeetsFront, PoolFileStep, PoolFileSteps, IsPoolStep, ArePoolSteps, IsLeastOnDisk, AddsPoolSteps}
+use Rattle.qls_pool.specs.Discipline.{MeetsFront, PoolFileStep, PoolFileSteps, IsPoolStep, ArePoolSteps, IsLeastOnDisk, AddsPoolSteps, EndsPoolSteps, StepsBy}
 use Rattle.qls_pool.proofs.Disks.{eqb_is, eqb_own, same_id, found_id, lacks_above, eqb_less, below_left, below_right}
 
 -- ---- all files
@@ -135,14 +134,17 @@ step_create m n part kib next none differ =
 pub adds_none : (x y : Content) → y ≡ x → AddsPoolSteps x y
 adds_none x y e = record { since = []; moments = ap (λ c. c.moments) e ∙ sym (append-nil x.moments); steps = tt }
 
-pub adds_one : (act : Moment → Moment) (x y : Content) → Acts act x y → IsPoolStep x.now (act x.now) → AddsPoolSteps x y
-adds_one act x y e step = record { since = act x.now ∷ []; moments = ap (λ c. c.moments) e; steps = (step, tt) }
+pub ends_none : (x y : Content) → y ≡ x → EndsPoolSteps x y
+ends_none x y e = record { since = []; moments = ap (λ c. c.moments) e ∙ sym (append-nil x.moments); steps = tt; last = ap (λ c. c.now) e }
+
+pub ends_one : (act : Moment → Moment) (x y : Content) → Acts act x y → IsPoolStep x.now (act x.now) → EndsPoolSteps x y
+ends_one act x y e step = record { since = act x.now ∷ []; moments = ap (λ c. c.moments) e; steps = (step, tt); last = ap (λ c. c.now) e }
 
 pub adds_may : (act : Moment → Moment) (x y : Content) → MayAct act x y → Differ (ids_of (full x.now.disk)) → IsPoolStep x.now (act x.now) → AddsPoolSteps x y
 adds_may act x y may differ step = record { since = x.now ∷ act x.now ∷ []; moments = may.moments; steps = (step_same x.now differ, (step, tt)) }
 
-pub adds_leads : {X : Type 0} (act : Moment → Moment) (r : Result X SiteError) (x y : Content) → Leads (Acts act) (MayAct act) r x y → Differ (ids_of (full x.now.disk)) → IsPoolStep x.now (act x.now) → AddsPoolSteps x y
-adds_leads act (Ok v) x y h differ step = adds_one act x y h step
+pub adds_leads : {X : Type 0} (act : Moment → Moment) (r : Result X SiteError) (x y : Content) → Leads (Acts act) (MayAct act) r x y → Differ (ids_of (full x.now.disk)) → IsPoolStep x.now (act x.now) → StepsBy r x y
+adds_leads act (Ok v) x y h differ step = ends_one act x y h step
 adds_leads act (Err Failed) x y h differ step = adds_may act x y h differ step
 adds_leads act (Err Memory) x y h differ step = adds_none x y h
 
@@ -180,10 +182,10 @@ sync_step : (id : ℕ) (m : Moment) → Differ (ids_of (full m.disk)) → IsPool
 sync_step id m differ = step_change id sync (λ f. refl) m differ (λ f e. synced m f)
 
 pub heads_steps : {X : Type 0} (b : BlankFile) (h : FileHeader) (r : Result X SiteError) (x y : Content) → IsTrue (is_legal_header h) → Heads b.id h r x y → Differ (ids_of (full x.now.disk)) → BlankThere b x.now.disk
-    → AddsPoolSteps x y
+    → StepsBy r x y
 heads_steps b h (Ok v) x y legal e differ there =
     let later : Differ (ids_of (full (header_written b.id h x.now).disk)) = subst Differ (sym (ids_same b.id (write (header_spelling h)) (λ f. refl) x.now.disk)) differ in
-    record { since = header_written b.id h x.now ∷ header_synced b.id h x.now ∷ []; moments = ap (λ c. c.moments) e; steps = (header_step b h x.now legal differ there, (sync_step b.id (header_written b.id h x.now) later, tt)) }
+    record { since = header_written b.id h x.now ∷ header_synced b.id h x.now ∷ []; moments = ap (λ c. c.moments) e; steps = (header_step b h x.now legal differ there, (sync_step b.id (header_written b.id h x.now) later, tt)); last = ap (λ c. c.now) e }
 heads_steps b h (Err f) x y legal (since, e, inl k) differ there = record { since = []; moments = e ∙ ap (λ (ms : List Moment). x.moments ++ ms) k; steps = tt }
 heads_steps b h (Err f) x y legal (since, e, inr (inl k)) differ there = record {
   since = header_written b.id h x.now ∷ [];
@@ -275,3 +277,29 @@ heads_ids id h v x y e k =
 
 pub moved_ids : (id : ℕ) (to : Place) (x y : Content) → Acts (on_disk (relocate_at id to)) x y → Differ (ids_of (full x.now.disk)) → Differ (ids_of (full y.now.disk))
 moved_ids id to x y e k = subst (λ (c : Content). Differ (ids_of (full c.now.disk))) (sym e) (differ_change id (λ f. record f { place = to }) (λ f. refl) x.now.disk k)
+
+-- ---- one call after another
+
+-- calls that answered Ok, and then one more
+steps_then : (m : Moment) (ms ns : List Moment) → ArePoolSteps m ms → ArePoolSteps (last_of m ms) ns → ArePoolSteps m (ms ++ ns)
+steps_then m [] ns h k = k
+steps_then m (n ∷ ms) ns h k = (h.0, steps_then n ms ns h.1 k)
+
+last_then : (m : Moment) (ms ns : List Moment) → last_of m (ms ++ ns) ≡ last_of (last_of m ms) ns
+last_then m [] ns = refl
+last_then m (n ∷ ms) ns = last_then n ms ns
+
+pub ends_adds : (x y z : Content) → EndsPoolSteps x y → AddsPoolSteps y z → AddsPoolSteps x z
+ends_adds x y z h k = record {
+  since = h.since ++ k.since;
+  moments = k.moments ∙ ap (λ (ms : List Moment). ms ++ k.since) h.moments ∙ append_assoc x.moments h.since k.since;
+  steps = steps_then x.now h.since k.since h.steps (subst (λ m. ArePoolSteps m k.since) h.last k.steps);
+}
+
+pub ends_then : (x y z : Content) → EndsPoolSteps x y → EndsPoolSteps y z → EndsPoolSteps x z
+ends_then x y z h k = record {
+  since = h.since ++ k.since;
+  moments = k.moments ∙ ap (λ (ms : List Moment). ms ++ k.since) h.moments ∙ append_assoc x.moments h.since k.since;
+  steps = steps_then x.now h.since k.since h.steps (subst (λ m. ArePoolSteps m k.since) h.last k.steps);
+  last = k.last ∙ ap (λ m. last_of m k.since) h.last ∙ sym (last_then x.now h.since k.since);
+}

@@ -1,5 +1,5 @@
 -- What taking a blank file, giving a file back and opening a pool leave.
-use Rattle.std.proofs.Common.{◌≡◌, ◌⊎◌, inl, inr, ℕ, ◌<◌, ◌≤◌, ◌+◌, ◌*◌, ◌-◌, Bool, true, false, not, cond, ◌&&◌, ◌||◌, ◌==◌, List, [], ◌∷◌, ◌++◌, map, filter, length, replicate, Option, Some, None, Result, Ok, Err, IfSome, IfOk, IsTrue, IsErr, refl, sym, ap, ◌∙◌, subst, arith, max}
+use Rattle.std.proofs.Common.{◌≡◌, ℕ, ◌≤◌, ◌+◌, ◌*◌, Bool, true, false, not, cond, ◌&&◌, ◌||◌, ◌==◌, List, [], ◌∷◌, filter, replicate, Option, Some, None, Result, Ok, Err, IfSome, IfOk, IsErr, refl, sym, ap, ◌∙◌, subst, arith, max}
 use Rattle.std.proofs.lemmas.Bool.Decides.{nat_tests}
 use Rattle.std.proofs.Math.ListN.{length-replicate}
 use Rattle.std.specs.List.{list_any, AllByRecursion}
@@ -10,8 +10,8 @@ use Rattle.qls_site.specs.declared.site.SiteError.TheVariants as site
 use Rattle.qls_site.specs.declared.site.FileAt.{FileAt}
 use Rattle.qls_site.specs.declared.site.Place.{Place}
 use Rattle.qls_site.specs.declared.site.Place.TheVariants.{InUse, Empty}
-use Rattle.qls_site.specs.Disk.{Disk, FileState, file_of, full, listing, listed, size_of, changed, change_file, with_file, create_at, relocate_at}
-use Rattle.qls_site.specs.Content.{Moment, Content, Tells, Acts, MayAct, Leads, on_disk, LacksFile}
+use Rattle.qls_site.specs.Disk.{Disk, FileState, file_of, full, listing, listed, size_of, create_at, relocate_at}
+use Rattle.qls_site.specs.Content.{Moment, Content, Tells, Acts, MayAct, Leads, LacksFile}
 use Rattle.qls_site.proofs.Told.{file_of-change_file, file_of-with_file}
 use Rattle.qls_meaning.specs.Journals.{is_in_use}
 use Rattle.qls_meaning.specs.Kept.{Differ, ids_of}
@@ -19,14 +19,14 @@ use Rattle.qls_meaning.specs.Spent.{greatest_id, is_pool_place}
 use Rattle.qls_pool.specs.declared.fault.TakeFault.{TakeFault}
 use Rattle.qls_pool.specs.declared.fault.TakeFault.TheVariants.{Failed, Draw, Spent, Memory}
 use Rattle.qls_pool.specs.declared.pooled.PooledFile.{PooledFile}
-use Rattle.qls_pool.specs.Pools.{PoolState, is_in, is_file, has, least_id, first_or, greatest_with, HandsOut, TakesBack, is_listed_in, Opens}
+use Rattle.qls_pool.specs.Pools.{PoolState, is_file, has, least_id, first_or, greatest_with, HandsOut, TakesBack, is_listed_in, Opens}
 use Rattle.qls_pool.specs.Files.{BlankFile, HeadedFile, IsBlank, IsLinked, BlankThere, LinkedThere, OnDisk, Carries, IsPoolOf, HasPool, IdsDiffer, IsWholePool, is_at, is_among, FitsPlace, IsSized, is_listed_empty, IsListingOf}
 use Rattle.qls_pool.specs.Taking.{created, Obtains, Obtained, TakesBlank, put_back}
-use Rattle.qls_pool.specs.Discipline.{IsLeastOnDisk, AddsPoolSteps, Orderly, IsPoolStep}
-use Rattle.qls_pool.proofs.Calls.{orderly_of, carries_of, carries_with}
+use Rattle.qls_pool.specs.Discipline.{IsLeastOnDisk, AddsPoolSteps, EndsPoolSteps, StepsBy, Orderly, IsPoolStep}
+use Rattle.qls_pool.proofs.Calls.{orderly_of, by_err, carries_of, carries_with}
 use Rattle.qls_pool.proofs.Order.{IsLeastOf, least_is}
-use Rattle.qls_pool.proofs.Disks.{eqb_is, eqb_own, eqb_less, same_id, found_id, greatest-change, greatest-with, lacks_above, other-with, at_change}
-use Rattle.qls_pool.proofs.Steps.{differ_create, moved_ids, apart, all_weaken, all_with, all_found, step_create, adds_none, adds_one, adds_may, own_change}
+use Rattle.qls_pool.proofs.Disks.{eqb_is, eqb_own, greatest-change, greatest-with, lacks_above, other-with, at_change}
+use Rattle.qls_pool.proofs.Steps.{differ_create, moved_ids, apart, all_weaken, all_with, all_found, step_create, adds_none, ends_none, ends_one, adds_may}
 
 -- ---- tests
 
@@ -238,11 +238,11 @@ create_step home pool m differ p none =
     step_create m (pool.greatest + 1) home.part home.kib (next_of pool [] m.disk p) (none_any (λ g. is_pool_place home.part home.kib g.place) m.disk (no_file_there home pool m.disk differ p none)) differ
 
 obtain_steps : (home : PoolId) (pool : PoolState) (x y : Content) → Differ (ids_of (full x.now.disk)) → IsPoolOf pool [] x.now.disk → (o : Option ℕ) → IsLeastOf (λ j. has home.part home.kib j pool.files) o
-    → Obtains home pool.greatest o x y → AddsPoolSteps x y
-obtain_steps home pool x y differ p (Some n) least e = adds_none x y e
-obtain_steps home pool x y differ p None least e = adds_one (created home pool.greatest) x y e (create_step home pool x.now differ p least)
+    → Obtains home pool.greatest o x y → EndsPoolSteps x y
+obtain_steps home pool x y differ p (Some n) least e = ends_none x y e
+obtain_steps home pool x y differ p None least e = ends_one (created home pool.greatest) x y e (create_step home pool x.now differ p least)
 
-pub blank_steps : (home : PoolId) (pool : PoolState) (r : Result BlankFile TakeFault) (x y : Content) → TakesBlank home pool r x y → Differ (ids_of (full x.now.disk)) → IsPoolOf pool [] x.now.disk → AddsPoolSteps x y
+pub blank_steps : (home : PoolId) (pool : PoolState) (r : Result BlankFile TakeFault) (x y : Content) → TakesBlank home pool r x y → Differ (ids_of (full x.now.disk)) → IsPoolOf pool [] x.now.disk → StepsBy r x y
 blank_steps home pool (Ok b) x y e differ p = obtain_steps home pool x y differ p (least_id home pool.files) (least_is home pool.files) e
 blank_steps home pool (Err Failed) x y e differ p =
     adds_may (created home pool.greatest) x y e.1 differ (create_step home pool x.now differ p (subst (IsLeastOf (λ j. has home.part home.kib j pool.files)) e.0 (least_is home pool.files)))
@@ -277,12 +277,13 @@ failed_steps : (home : PoolId) (pool : PoolState) (e : SiteError) (x y : Content
 failed_steps home pool site.Failed x y k differ p = blank_steps home pool (Err Failed) x y k differ p
 failed_steps home pool site.Memory x y k differ p = adds_none x y k
 
-pub blank_failed : (home : PoolId) (pool : PoolState) (e : SiteError) (a b : Option Content) → Tells (Obtained home pool (Err e)) a b → Orderly (IsPoolOf pool []) a b
-blank_failed home pool e a b t = orderly_of (Obtained home pool (Err e)) (IsPoolOf pool []) a b t (failed_steps home pool e)
+pub blank_failed : (home : PoolId) (pool : PoolState) (e : SiteError) (r : Result BlankFile TakeFault) (a b : Option Content) → IsErr r → Tells (Obtained home pool (Err e)) a b → Orderly (IsPoolOf pool []) r a b
+blank_failed home pool e r a b is t =
+    orderly_of (Obtained home pool (Err e)) (IsPoolOf pool []) r a b t (λ x y k differ p. by_err r x y is (failed_steps home pool e x y k differ p))
 
-pub blank_orderly : (home : PoolId) (pool : PoolState) (a b : Option Content) → Tells (Obtains home pool.greatest (least_id home pool.files)) a b → Orderly (IsPoolOf pool []) a b
-blank_orderly home pool a b t =
-    orderly_of (Obtains home pool.greatest (least_id home pool.files)) (IsPoolOf pool []) a b t (λ x y k differ p. obtain_steps home pool x y differ p (least_id home pool.files) (least_is home pool.files) k)
+pub blank_orderly : (home : PoolId) (pool : PoolState) (b : BlankFile) (a c : Option Content) → Tells (Obtains home pool.greatest (least_id home pool.files)) a c → Orderly {X = BlankFile} {E = TakeFault} (IsPoolOf pool []) (Ok b) a c
+blank_orderly home pool b a c t =
+    orderly_of {X = BlankFile} {E = TakeFault} (Obtains home pool.greatest (least_id home pool.files)) (IsPoolOf pool []) (Ok b) a c t (λ x y k differ p. obtain_steps home pool x y differ p (least_id home pool.files) (least_is home pool.files) k)
 
 -- ---- a file that is given back
 

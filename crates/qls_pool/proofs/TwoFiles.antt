@@ -1,16 +1,13 @@
 -- A site that begins with two empty files, as the tests have it.
-use Rattle.std.proofs.Common.{◌≡◌, ℕ, ◌<◌, ◌≤◌, Bool, true, false, cond, ◌==◌, eqb, ltb, List, [], ◌∷◌, length, Option, Some, None, Result, Ok, Err, IfOk, refl, sym, ap, ◌∙◌, subst, arith, max}
+use Rattle.std.proofs.Common.{◌≡◌, ℕ, ◌<◌, Bool, true, false, cond, ◌==◌, ltb, [], ◌∷◌, length, Some, None, Result, Ok, Err, IfOk, refl, sym, ap, ◌∙◌, subst, arith, max}
 use Rattle.std.proofs.lemmas.Bool.Decides.{nat_tests}
 use Rattle.qls_site.specs.declared.site.ImageFile.{ImageFile}
-use Rattle.qls_site.specs.declared.site.Place.{Place}
-use Rattle.qls_site.specs.declared.site.Place.TheVariants.{Empty}
-use Rattle.qls_site.specs.Disk.{Disk, Image, at_rest, file_of}
+use Rattle.qls_site.specs.Disk.{Image, at_rest}
 use Rattle.qls_site.specs.Content.{Content}
 use Rattle.qls_model.specs.declared.bytes.NoMemory.{NoMemory}
 use Rattle.qls_memsite.specs.declared.memory.MemSite.{MemSite}
 use Rattle.qls_memsite.specs.Memory.{BeginsOn, content_of}
 use Rattle.qls_memsite.specs.Seen.{by_id, IdsDiffer as Apart}
-use Rattle.qls_meaning.specs.Spent.{greatest_id}
 use Rattle.qls_pool.specs.Files.{FitsPools, FitsPlace, IsSized}
 
 turned_less : (m n : ℕ) → m < n → (n == m) ≡ false

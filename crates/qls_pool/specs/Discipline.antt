@@ -1,6 +1,6 @@
 -- What the pool decides, between each two moments in a row: which file is created, comes into use, goes back, and how an empty
 -- file is written.
-use Rattle.std.specs.Prelude.{◌≡◌, ℕ, ◌+◌, ◌≤◌, true, false, List, [], ◌∷◌, ◌++◌, length, take, Option, Some, None, Ok}
+use Rattle.std.specs.Prelude.{◌≡◌, ℕ, ◌+◌, ◌≤◌, true, false, List, [], ◌∷◌, ◌++◌, length, take, Option, Some, None, Result, Ok, Err}
 use Rattle.std.specs.List.{AllByRecursion}
 use Rattle.qls_site.specs.declared.site.Place.{Place}
 use Rattle.qls_site.specs.declared.site.Place.TheVariants.{InUse, Empty}
@@ -8,6 +8,7 @@ use Rattle.qls_site.specs.Disk.{Disk, FileState, Write, file_of}
 use Rattle.qls_site.specs.Content.{Moment, Content}
 use Rattle.qls_filehdr.specs.declared.FileHeader.{FileHeader}
 use Rattle.qls_filehdr.specs.Header.{header_of}
+use Rattle.qls_meaning.specs.History.{last_of}
 use Rattle.qls_meaning.specs.Journals.{is_in_use}
 use Rattle.qls_meaning.specs.Spent.{is_pool_place}
 use Rattle.qls_pool.specs.Files.{IdsDiffer}
@@ -60,8 +61,20 @@ pub record AddsPoolSteps (old new : Content) : Type 0 where
   pub moments : new.moments ≡ old.moments ++ since
   pub steps : ArePoolSteps old.now since
 
+-- and the last of them is the one that is now
+pub record EndsPoolSteps (old new : Content) : Type 0 where
+  pub since : List Moment
+  pub moments : new.moments ≡ old.moments ++ since
+  pub steps : ArePoolSteps old.now since
+  pub last : new.now ≡ last_of old.now since
+
+-- after an error what is now may differ from the last moment
+abbrev pub StepsBy : {X E : Type 0} → Result X E → Content → Content → Type 0
+StepsBy (Ok x) old new = EndsPoolSteps old new
+StepsBy (Err e) old new = AddsPoolSteps old new
+
 -- where the content is told, the ids of its disk differ and this holds of it
-abbrev pub Orderly : (Disk → Type 0) → Option Content → Option Content → Type 0
-Orderly P (Some old) (Some new) = IdsDiffer old.now.disk → P old.now.disk → AddsPoolSteps old new
-Orderly P (Some old) None = Unit {0}
-Orderly P None new = Unit {0}
+abbrev pub Orderly : {X E : Type 0} → (Disk → Type 0) → Result X E → Option Content → Option Content → Type 0
+Orderly P result (Some old) (Some new) = IdsDiffer old.now.disk → P old.now.disk → StepsBy result old new
+Orderly P result (Some old) None = Unit {0}
+Orderly P result None new = Unit {0}

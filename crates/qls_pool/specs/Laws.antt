@@ -1,6 +1,5 @@
 -- What other calls leave of a file and of a pool.
-use Rattle.std.specs.Prelude.{◌≡◌, ℕ, ◌+◌, ◌≤◌, false, List, length, ◌==◌}
-use Rattle.qls_model.specs.Limits.{file_size}
+use Rattle.std.specs.Prelude.{◌≡◌, ℕ, false, List, ◌==◌}
 use Rattle.qls_site.specs.declared.site.Place.{Place}
 use Rattle.qls_site.specs.Disk.{Disk, write_at, sync_at, relocate_at, create_at}
 use Rattle.qls_pool.specs.Pools.{PoolState}

@@ -99,7 +99,7 @@ impl Blank {
         ensures pool { IfOk result (λ _. (pool : PoolState) (out : List ℕ) → Carries (IsPoolOf pool out) (IsPoolOf pool out) (S.told site.old) (S.told site.new)) }
         ensures least { IfOk result (λ _. Carries (IsLeastOnDisk header.part header.kib self.id) (IsLeastOnDisk header.part header.kib self.id) (S.told site.old) (S.told site.new)) }
         ensures ids { IfOk result (λ _. Carries IdsDiffer IdsDiffer (S.told site.old) (S.told site.new)) }
-        ensures orderly { Orderly (BlankThere self) (S.told site.old) (S.told site.new) }
+        ensures orderly { Orderly (BlankThere self) result (S.told site.old) (S.told site.new) }
     {
         write_header(site, self.id, &header)?;
         Ok(Headed {
@@ -155,7 +155,7 @@ impl Headed {
         ensures there { IfOk result (λ linked. IfSome (S.told site.new) (OnDisk (RestsThere linked))) }
         ensures pool { IfOk result (λ _. (pool : PoolState) (out : List ℕ) → Carries (IsPoolOf pool (self.id ∷ out)) (IsPoolOf pool out) (S.told site.old) (S.told site.new)) }
         ensures ids { IfOk result (λ _. Carries IdsDiffer IdsDiffer (S.told site.old) (S.told site.new)) }
-        ensures orderly { Orderly (IsLeastOnDisk self.header.part self.header.kib self.id) (S.told site.old) (S.told site.new) }
+        ensures orderly { Orderly (IsLeastOnDisk self.header.part self.header.kib self.id) result (S.told site.old) (S.told site.new) }
     {
         let Headed { id, header } = self;
         site.relocate(id, Place::InUse)?;

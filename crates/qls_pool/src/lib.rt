@@ -13,7 +13,7 @@ mod pooled;
 
 pub use fault::TakeFault;
 pub use file::{Blank, Headed, Linked};
-pub use laws::{data_writes_leave_a_file, other_calls_leave_a_file};
+pub use laws::{data_writes_leave_a_file, other_calls_leave_a_file, steps_join};
 pub use pool::Pool;
 pub use pooled::PooledFile;
 

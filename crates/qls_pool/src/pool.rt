@@ -93,7 +93,7 @@ impl Pool {
         ensures pool { IfOk result (λ blank. (out : List ℕ) → Carries (IsPoolOf self.old out) (IsPoolOf self.new (blank.id ∷ out)) (S.told site.old) (S.told site.new)) }
         ensures least { IfOk result (λ blank. Carries (IsWholePool self.old) (IsLeastOnDisk home.part home.kib blank.id) (S.told site.old) (S.told site.new)) }
         ensures ids { IfOk result (λ _. Carries (IsWholePool self.old) IdsDiffer (S.told site.old) (S.told site.new)) }
-        ensures orderly { Orderly (IsPoolOf self.old []) (S.told site.old) (S.told site.new) }
+        ensures orderly { Orderly (IsPoolOf self.old []) result (S.told site.old) (S.told site.new) }
     {
         let least = pooled::least(&self.files, home);
         if least.is_none() && self.greatest == LAST_ID {
@@ -173,7 +173,7 @@ impl Pool {
         ensures reads { S.reads site.new ≡ S.reads site.old }
         ensures pool { IfOk result (λ _. (out : List ℕ) → is_among file.id out ≡ false → Carries (IsPoolOf self.old out) (IsPoolOf self.new out) (S.told site.old) (S.told site.new)) }
         ensures ids { IfOk result (λ _. Carries IdsDiffer IdsDiffer (S.told site.old) (S.told site.new)) }
-        ensures orderly { Orderly (LinkedThere file) (S.told site.old) (S.told site.new) }
+        ensures orderly { Orderly (LinkedThere file) result (S.told site.old) (S.told site.new) }
     {
         let pooled = file.pooled();
         let added = pooled::add(&mut self.files, pooled)?;

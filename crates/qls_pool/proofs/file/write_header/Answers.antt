@@ -1,4 +1,4 @@
-use Rattle.std.proofs.Common.{◌≡◌, ℕ, List, length, IfSome, ◌∙◌, sym, ap, subst}
+use Rattle.std.proofs.Common.{ℕ, List, length, IfSome, ◌∙◌, sym, ap, subst}
 use Rattle.qls_site.specs.Disk.{write_at}
 use Rattle.qls_site.specs.Content.{Acts, HasRange, HasFile, on_disk}
 use Rattle.qls_site.proofs.Told.{IfSome-after, HasFile-write}

@@ -1,5 +1,5 @@
-use Rattle.std.proofs.Common.{◌≡◌, Bool, true, false, not, refl, sym, ap, ◌∙◌}
-use Rattle.qls_pool.proofs.Order.{one_more, undone, found_there}
+use Rattle.std.proofs.Common.{◌≡◌, Bool, true, false, not, refl}
+use Rattle.qls_pool.proofs.Order.{one_more, undone}
 use Rattle.qls_pool.proofs.pooled.add.Goals as goal
 
 pub returns-clause-added : goal.returns-clause-added

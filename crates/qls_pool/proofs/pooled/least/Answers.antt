@@ -1,4 +1,4 @@
-use Rattle.std.proofs.Common.{◌≡◌, sym, ap, ◌∙◌}
+use Rattle.std.proofs.Common.{sym, ◌∙◌}
 use Rattle.qls_pool.proofs.Order.{none_found, first_found, other_found}
 use Rattle.qls_pool.proofs.pooled.least.Goals as goal
 

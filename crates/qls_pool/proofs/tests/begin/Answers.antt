@@ -1,9 +1,6 @@
-use Rattle.std.proofs.Common.{◌≡◌, ℕ, ◌<◌, List, [], ◌∷◌, ◌++◌, length, sym, ap, ◌∙◌, subst}
+use Rattle.std.proofs.Common.{◌≡◌, ℕ, ◌<◌, List, [], ◌∷◌, ◌++◌, sym, ap, ◌∙◌, subst}
 use Rattle.qls_site.specs.declared.site.ImageFile.{ImageFile}
-use Rattle.qls_site.specs.Disk.{at_rest}
-use Rattle.qls_site.specs.Content.{Content}
-use Rattle.qls_memsite.specs.Seen.{by_id, IdsDiffer}
-use Rattle.qls_pool.specs.Files.{FitsPools}
+use Rattle.qls_memsite.specs.Seen.{IdsDiffer}
 use Rattle.qls_pool.proofs.TwoFiles.{apart, fits_begun}
 use Rattle.qls_pool.proofs.tests.begin.Goals as goal
 

@@ -1,9 +1,9 @@
-use Rattle.std.proofs.Common.{◌≡◌, ℕ, List, Result, Ok, IfSome, ◌∙◌, sym, ap, subst}
+use Rattle.std.proofs.Common.{Result, Ok, IfSome, sym, subst}
 use Rattle.qls_site.specs.declared.site.SiteError.{SiteError}
 use Rattle.qls_site.specs.Content.{Tells}
-use Rattle.qls_pool.specs.Files.{BlankFile, HeadedFile, BlankThere, HeadedThere, OnDisk, IdsDiffer, IsPoolOf}
+use Rattle.qls_pool.specs.Files.{BlankFile, BlankThere, HeadedThere, OnDisk, IdsDiffer, IsPoolOf}
 use Rattle.qls_pool.specs.Taking.{Heads}
-use Rattle.qls_pool.specs.Discipline.{IsLeastOnDisk, Orderly}
+use Rattle.qls_pool.specs.Discipline.{IsLeastOnDisk}
 use Rattle.qls_pool.proofs.Steps.{heads_ids}
 use Rattle.qls_pool.proofs.Calls.{handed_on, heads_err, head_orderly, told_then, carries_of, carries_with, headed_there, heads_pool, heads_least}
 use Rattle.qls_pool.proofs.file.Blank.head.Given as Given

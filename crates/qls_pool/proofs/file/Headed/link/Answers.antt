@@ -1,8 +1,7 @@
-use Rattle.std.proofs.Common.{◌≡◌, ℕ, List, [], ◌∷◌, Result, Ok, IfSome, IsTrue, ◌∙◌, sym, ap, subst}
+use Rattle.std.proofs.Common.{◌∷◌, Result, Ok, IfSome, IsTrue, sym, subst}
 use Rattle.qls_site.specs.Content.{Tells, Acts, MayAct, Leads}
 use Rattle.qls_site.specs.declared.site.SiteError.{SiteError}
 use Rattle.qls_filehdr.specs.Limits.{is_legal_header}
-use Rattle.qls_pool.specs.Pools.{PoolState}
 use Rattle.qls_pool.specs.Files.{HeadedFile, HeadedThere, RestsThere, OnDisk, Carries, IdsDiffer, IsPoolOf}
 use Rattle.qls_pool.specs.Taking.{put_in_use}
 use Rattle.qls_pool.specs.Discipline.{IsLeastOnDisk, Orderly}
@@ -35,7 +34,7 @@ returns-clause-pool g c = λ pool out.
 pub returns-clause-orderly : goal.returns-clause-orderly
 returns-clause-orderly g c =
     let r : Result (Unit {0}) SiteError = Ok tt in
-    subst (λ (h : HeadedFile). Orderly (IsLeastOnDisk h.header.part h.header.kib h.id) (g.S.Site.told c.args.site.now) (g.S.Site.told c.relocate.new.self)) c.self.view_is
+    subst (λ (h : HeadedFile). Orderly (IsLeastOnDisk h.header.part h.header.kib h.id) r (g.S.Site.told c.args.site.now) (g.S.Site.told c.relocate.new.self)) c.self.view_is
     (link_orderly (record { id = c.self.inside.id; header = c.self.inside.header }) r _ _ c.self.invariant c.in_ok-relocate.ensures.told
     (subst (λ (k : HeadedFile). IfSome (g.S.Site.told c.args.site.now) (OnDisk (HeadedThere k))) (sym c.self.view_is) c.requires.there))
 

@@ -1,5 +1,5 @@
-use Rattle.std.proofs.Common.{◌≡◌, ℕ, List, [], ◌∷◌, Option, refl}
-use Rattle.qls_pool.specs.Pools.{PoolState, least_id}
+use Rattle.std.proofs.Common.{◌∷◌, refl}
+use Rattle.qls_pool.specs.Pools.{least_id}
 use Rattle.qls_pool.specs.Files.{BlankFile, BlankThere, IsPoolOf, IdsDiffer, IsWholePool}
 use Rattle.qls_pool.specs.Taking.{Obtains}
 use Rattle.qls_pool.specs.Discipline.{IsLeastOnDisk}
@@ -8,7 +8,7 @@ use Rattle.qls_pool.proofs.Taken.{blank_failed, blank_orderly, blank_there, blan
 use Rattle.qls_pool.proofs.pool.Pool.blank.Goals as goal
 
 pub returns-in_err-id-clause-orderly : goal.returns-in_err-id-clause-orderly
-returns-in_err-id-clause-orderly g c = blank_failed c.args.home c.args.self.now c.in_err-id.field-0.0 _ _ c.in_err-id.ensures.told
+returns-in_err-id-clause-orderly g c = blank_failed c.args.home c.args.self.now c.in_err-id.field-0.0 c.from_residual-in_err-id.result _ _ c.from_residual-in_err-id.ensures.0 c.in_err-id.ensures.told
 
 pub returns-clause-there : goal.returns-clause-there
 returns-clause-there g c = λ out.
@@ -27,7 +27,7 @@ returns-clause-least g c =
     (λ x y e w. blank_least c.args.home c.args.self.now c.obtain.new.self c.in_ok-id.id x y c.in_ok-id.ensures.handed e w)
 
 pub returns-clause-orderly : goal.returns-clause-orderly
-returns-clause-orderly g c = blank_orderly c.args.home c.args.self.now _ _ c.in_ok-id.ensures.told
+returns-clause-orderly g c = blank_orderly c.args.home c.args.self.now (record { id = c.in_ok-id.id; serial = c.in_ok-serial.serial; home = c.args.home }) _ _ c.in_ok-id.ensures.told
 
 pub returns-clause-ids : goal.returns-clause-ids
 returns-clause-ids g c =

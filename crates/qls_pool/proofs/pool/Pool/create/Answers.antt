@@ -1,4 +1,4 @@
-use Rattle.std.proofs.Common.{◌≡◌, ℕ, ◌+◌, IfSome, Some, None, sym, ap, ◌∙◌, subst}
+use Rattle.std.proofs.Common.{◌+◌, IfSome, sym, ap, ◌∙◌, subst}
 use Rattle.qls_site.specs.Content.{LacksFile}
 use Rattle.qls_pool.specs.Pools.{PoolState, least_id, HandsOut}
 use Rattle.qls_pool.proofs.Taken.{told_lacks, hands_new}

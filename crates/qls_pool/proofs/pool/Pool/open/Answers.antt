@@ -1,4 +1,4 @@
-use Rattle.std.proofs.Common.{◌≡◌, ◌∙◌, ℕ, ◌≤◌, List, take, length, ap, subst, refl}
+use Rattle.std.proofs.Common.{◌∙◌, ◌≤◌, List, length, ap, subst, refl}
 use Rattle.std.proofs.lemmas.List.{take_all}
 use Rattle.std.specs.List.{list_any}
 use Rattle.qls_site.specs.declared.site.FileAt.{FileAt}
