@@ -7,7 +7,6 @@ mod places;
 mod slots;
 
 pub use map::EnqMap;
-
 use qls_model::{Bytes, Status};
 
 /// A message that a queue holds: its record's id, its status and body, and the numbers of the files in which its
