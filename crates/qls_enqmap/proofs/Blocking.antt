@@ -119,10 +119,10 @@ less_at false w p b q x counts es us e l m r v i g =
 
 low_block : (p w k : ℕ) → 0 < w → p < k * w → p / w < k
 low_block p w k l m = low_by (nat_lt (p / w) k) refl
-    where
-      low_by : (c : Bool) → c ≡ nat_lt (p / w) k → p / w < k
-      low_by true e = grind arith
-      low_by false e = let g : k ≤ p / w = grind arith in let h : k * w ≤ (p / w) * w = mul-le-mul_right w g in absurd (omega (arith, block_from p w l))
+  where
+    low_by : (c : Bool) → c ≡ nat_lt (p / w) k → p / w < k
+    low_by true e = grind arith
+    low_by false e = let g : k ≤ p / w = grind arith in let h : k * w ≤ (p / w) * w = mul-le-mul_right w g in absurd (omega (arith, block_from p w l))
 
 pub counted_more : (w p x : ℕ) (counts : List ℕ) (es us : Slots) → 0 < w → IsCounted w counts es → p < length counts * w → x ≡ get_or counts (p / w) 0 + 1 → length us ≡ p + 1 → Gains es us p
     → IsCounted w (set counts (p / w) x) us
@@ -240,12 +240,13 @@ gain_at es k h zero = none_below (length es) 0
 gain_at [] k h (suc zero) = sym (all_behind 0 0)
 gain_at [] k h (suc (suc n)) = sym (all_behind (suc n) 0)
 gain_at (e ∷ es) k h (suc n) = gain_by e.1 (held_in (take n (es ++ (k, Some h) ∷ []))) (held_in (take n es)) (cond (nat_lt (length es) n) 1 0) (gain_at es k h n) ∙ ap (λ t. length (cons_option e.1 (held_in (take n es))) + cond t 1 0) (lt_suc (length es) n)
-    where
-      gain_by : (v : Option Held) (hs gs : List Held) (x : ℕ) → length hs ≡ length gs + x → length (cons_option v hs) ≡ length (cons_option v gs) + x
-      gain_by None hs gs x e = e
-      gain_by (Some g) hs gs x e = omega arith
-      lt_suc : (a b : ℕ) → nat_lt a b ≡ nat_lt (suc a) (suc b)
-      lt_suc a b = grind arith
+  where
+    gain_by : (v : Option Held) (hs gs : List Held) (x : ℕ) → length hs ≡ length gs + x → length (cons_option v hs) ≡ length (cons_option v gs) + x
+    gain_by None hs gs x e = e
+    gain_by (Some g) hs gs x e = omega arith
+
+    lt_suc : (a b : ℕ) → nat_lt a b ≡ nat_lt (suc a) (suc b)
+    lt_suc a b = grind arith
 
 pub gains_last : (es us : Slots) (k : ℕ) (h : Held) → us ≡ es ++ (k, Some h) ∷ [] → Gains es us (length es)
 gains_last es us k h e n = ap (λ x. before x n) e ∙ gain_at es k h n
@@ -274,12 +275,13 @@ lose_later false rid v h k es p zero e l i = sym (none_below (suc p) 0)
 lose_later false rid v h k es p (suc n) e l i =
     ap (λ t. before ((k, v) ∷ set_value (nat_eq rid) es None) (suc n) + cond t 1 0) (lt_suc p n)
     ∙ lose_by v (held_in (take n (set_value (nat_eq rid) es None))) (held_in (take n es)) (cond (nat_lt p n) 1 0) (i l n)
-    where
-      lt_suc : (a b : ℕ) → nat_lt (suc a) (suc b) ≡ nat_lt a b
-      lt_suc a b = grind arith
-      lose_by : (v : Option Held) (hs gs : List Held) (x : ℕ) → length hs + x ≡ length gs → length (cons_option v hs) + x ≡ length (cons_option v gs)
-      lose_by None hs gs x e = e
-      lose_by (Some g) hs gs x e = omega arith
+  where
+    lt_suc : (a b : ℕ) → nat_lt (suc a) (suc b) ≡ nat_lt a b
+    lt_suc a b = grind arith
+
+    lose_by : (v : Option Held) (hs gs : List Held) (x : ℕ) → length hs + x ≡ length gs → length (cons_option v hs) + x ≡ length (cons_option v gs)
+    lose_by None hs gs x e = e
+    lose_by (Some g) hs gs x e = omega arith
 
 equal_nat : (a b : ℕ) → b ≡ a → nat_eq a b ≡ true
 equal_nat a b e = grind arith
@@ -295,7 +297,7 @@ loses_at rid n h (x ∷ es) zero v r e l m =
     lose_first (nat_eq rid x.0) rid x.1 h x.0 es m (equal_nat rid x.0 (ap (λ (y : ℕ × Option Held). y.0) q)) l
 loses_at rid n h (x ∷ es) (suc p) v r e l m =
     lose_later (nat_eq rid x.0) rid x.1 h x.0 es p m (above_nat rid x.0 (omega (arith, slot_above (x.0 + 1) es p rid v r.2 e))) l
-        (λ k. loses_at rid (x.0 + 1) h es p v r.2 e k)
+    (λ k. loses_at rid (x.0 + 1) h es p v r.2 e k)
 
 -- a record that goes out is lost from its slot on
 pub loses_slot : (rid : ℕ) (h : Held) (es us : Slots) → RisesFrom 0 es → lookup (nat_eq rid) es ≡ Some (Some h) → us ≡ set_value (nat_eq rid) es None → (p : ℕ) → IsSlotOf es p rid → Loses es us p
@@ -305,8 +307,7 @@ loses_slot rid h es us r l e p i n = ap (λ x. before x n + cond (nat_lt p n) 1 
 pub all_before : (es : Slots) → before es (length es) ≡ length (held_in es)
 all_before [] = refl
 all_before (e ∷ es) = all_by e.1 (held_in (take (length es) es)) (held_in es) (all_before es)
-    where
-      all_by : (v : Option Held) (hs gs : List Held) → length hs ≡ length gs → length (cons_option v hs) ≡ length (cons_option v gs)
-      all_by None hs gs e = e
-      all_by (Some g) hs gs e = ap suc e
-
+  where
+    all_by : (v : Option Held) (hs gs : List Held) → length hs ≡ length gs → length (cons_option v hs) ≡ length (cons_option v gs)
+    all_by None hs gs e = e
+    all_by (Some g) hs gs e = ap suc e

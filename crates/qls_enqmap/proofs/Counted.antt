@@ -142,10 +142,10 @@ least_rising file [] r = refl
 least_rising file (h ∷ hs) r =
     let m : min file h.file ≡ file = omega (arith, r.0) in
     ap (λ f. least_from f hs) m ∙ least_rising file hs (later file h.file hs r.0 r.1)
-    where
-      later : (f g : ℕ) (hs : List Held) → f ≤ g → FilesRise g hs → FilesRise f hs
-      later f g [] l r = tt
-      later f g (h ∷ hs) l r = (omega (arith, r.0), r.1)
+  where
+    later : (f g : ℕ) (hs : List Held) → f ≤ g → FilesRise g hs → FilesRise f hs
+    later f g [] l r = tt
+    later f g (h ∷ hs) l r = (omega (arith, r.0), r.1)
 
 least_first : (v : Option Held) (hs : List Held) → is_some v ≡ true → FilesRise 0 (cons_option v hs) → file_in v ≡ least_file (cons_option v hs)
 least_first None hs s r = absurd (cc)
@@ -173,10 +173,10 @@ taken_more : (es : Slots) (p : ℕ) → p < length es → held_in (take (suc p) 
 taken_more [] p l = absurd (omega arith)
 taken_more (x ∷ es) zero l = refl
 taken_more (x ∷ es) (suc p) l = more_by x.1 (held_in (take (suc p) es)) (held_in (take p es)) (cons_option (record_in (slice_get es p)) []) (taken_more es p (omega arith))
-    where
-      more_by : (v : Option Held) (hs gs fs : List Held) → hs ≡ gs ++ fs → cons_option v hs ≡ cons_option v gs ++ fs
-      more_by None hs gs fs e = e
-      more_by (Some g) hs gs fs e = ap (λ l. g ∷ l) e
+  where
+    more_by : (v : Option Held) (hs gs fs : List Held) → hs ≡ gs ++ fs → cons_option v hs ≡ cons_option v gs ++ fs
+    more_by None hs gs fs e = e
+    more_by (Some g) hs gs fs e = ap (λ l. g ∷ l) e
 
 pub least_step : (es : Slots) (p q : ℕ) → q ≡ p + 1 → p < length es → lesser (least_file (held_in (take p es))) (file_in (record_in (slice_get es p))) ≡ least_file (held_in (take q es))
 least_step es p q e l =

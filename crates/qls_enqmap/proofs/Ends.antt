@@ -53,10 +53,10 @@ file_by : (file : ℕ) (es : Slots) (k : ℕ) (h : Held) → Some (k, Some h) �
 file_by file [] k h l = absurd (cc)
 file_by file (e ∷ []) k h l = let q : (k, Some h) ≡ e = (cc) in ap (λ (x : ℕ × Option Held). last_file file (cons_option x.1 [])) q
 file_by file (e ∷ f ∷ es) k h l = file_skip e.1 file (f ∷ es) k h (λ g. file_by g (f ∷ es) k h l)
-    where
-      file_skip : (v : Option Held) (file : ℕ) (es : Slots) (k : ℕ) (h : Held) → ((g : ℕ) → h.file ≡ last_file g (held_in es)) → h.file ≡ last_file file (cons_option v (held_in es))
-      file_skip None file es k h i = i file
-      file_skip (Some g) file es k h i = i g.file
+  where
+    file_skip : (v : Option Held) (file : ℕ) (es : Slots) (k : ℕ) (h : Held) → ((g : ℕ) → h.file ≡ last_file g (held_in es)) → h.file ≡ last_file file (cons_option v (held_in es))
+    file_skip None file es k h i = i file
+    file_skip (Some g) file es k h i = i g.file
 
 file_at : (es : Slots) (k : ℕ) (h : Held) → Some (k, Some h) ≡ slice_get es (length es - 1) → h.file ≡ last_file 0 (held_in es)
 file_at es k h l = file_by 0 es k h (l ∙ last_is es)
@@ -70,14 +70,14 @@ none_last : (es : Slots) → None ≡ last_item es → 0 ≡ last_file 0 (held_i
 none_last [] h = refl
 none_last (e ∷ []) h = absurd (cc)
 none_last (e ∷ f ∷ es) h = some_last e f es h
-    where
-      some_last : (e f : ℕ × Option Held) (es : Slots) → None ≡ last_item (f ∷ es) → 0 ≡ last_file 0 (held_in (e ∷ f ∷ es))
-      some_last e f [] h = absurd (cc)
-      some_last e f (g ∷ es) h = absurd (never f g es h)
-        where
-          never : (f g : ℕ × Option Held) (es : Slots) → None ≡ last_item (f ∷ g ∷ es) → ⊥
-          never f g [] h = cc
-          never f g (x ∷ es) h = never g x es h
+  where
+    some_last : (e f : ℕ × Option Held) (es : Slots) → None ≡ last_item (f ∷ es) → 0 ≡ last_file 0 (held_in (e ∷ f ∷ es))
+    some_last e f [] h = absurd (cc)
+    some_last e f (g ∷ es) h = absurd (never f g es h)
+      where
+        never : (f g : ℕ × Option Held) (es : Slots) → None ≡ last_item (f ∷ g ∷ es) → ⊥
+        never f g [] h = cc
+        never f g (x ∷ es) h = never g x es h
 
 pub no_file : (es : Slots) → None ≡ slice_get es (length es - 1) → 0 ≡ last_file 0 (held_in es)
 no_file es h = none_last es (h ∙ last_is es)

@@ -93,10 +93,10 @@ kept_more es us blocks later h count start rising more k b e a f =
 pub few : (es : Slots) → length (held_in es) ≤ length es
 few [] = omega arith
 few (e ∷ es) = few_by e.1 (held_in es) (length es) (few es)
-    where
-      few_by : (v : Option Held) (hs : List Held) (n : ℕ) → length hs ≤ n → length (cons_option v hs) ≤ suc n
-      few_by None hs n l = omega arith
-      few_by (Some g) hs n l = omega arith
+  where
+    few_by : (v : Option Held) (hs : List Held) (n : ℕ) → length hs ≤ n → length (cons_option v hs) ≤ suc n
+    few_by None hs n l = omega arith
+    few_by (Some g) hs n l = omega arith
 
 -- ---- another status
 
@@ -145,12 +145,18 @@ kept_less rid es us vs blocks later count less start next rising k a left fewer 
 
 rids_by : (n k : ℕ) (v : Option Held) (hs : List Held) → n ≤ k → HasRid k v → RidsFrom (k + 1) hs → RidsFrom n (cons_option v hs)
 rids_by n k None hs l h r = rids_later n (k + 1) hs (omega arith) r
-    where
-      rids_later : (m n : ℕ) (hs : List Held) → m ≤ n → RidsFrom n hs → RidsFrom m hs
-      rids_later m n [] l r = tt
-      rids_later m n (h ∷ hs) l r = (omega (arith, r.0), r.1)
+  where
+    rids_later : (m n : ℕ) (hs : List Held) → m ≤ n → RidsFrom n hs → RidsFrom m hs
+    rids_later m n [] l r = tt
+    rids_later m n (h ∷ hs) l r = (omega (arith, r.0), r.1)
 rids_by n k (Some g) hs l h r = (subst (λ m. n ≤ m) (sym h) l, subst (λ m. RidsFrom (m + 1) hs) (sym h) r)
 
 pub rids_rise : (n : ℕ) (es : Slots) → RisesFrom n es → RidsFrom n (held_in es)
 rids_rise n [] r = tt
 rids_rise n (e ∷ es) r = rids_by n e.0 e.1 (held_in es) r.0 r.1 (rids_rise (e.0 + 1) es r.2)
+
+-- ---- ids put one after another
+
+pub below_more : (n m : ℕ) (h : Held) (hs : List Held) → AllBelow n hs → n ≤ m → h.rid < m → AllBelow m (hs ++ h ∷ [])
+below_more n m h [] b l r = (r, tt)
+below_more n m h (g ∷ hs) b l r = (omega (arith, b.0), below_more n m h hs b.1 l r)

@@ -107,7 +107,7 @@ status_by true rid k s (Some g) h es e o r l i =
     let q : g ≡ h = (cc) in
     ap {A = Held} (λ x. record x { status = s } ∷ held_in es) (sym q)
     ∙ sym (ap (λ b. cond b (record g { status = s }) g ∷ with_status rid s (held_in es)) (has_id rid k g e o)
-        ∙ ap (λ hs. record g { status = s } ∷ hs) (status_below rid (k + 1) s es (just_above rid k e) r))
+    ∙ ap (λ hs. record g { status = s } ∷ hs) (status_below rid (k + 1) s es (just_above rid k e) r))
 status_by false rid k s v h es e o r l i = ap (λ hs. cons_option v hs) (i l) ∙ sym (status_skip rid s v (held_in es) (other_nat rid k v e o))
 
 pub status_set : (rid n : ℕ) (s : Status) (h : Held) (es : Slots) → RisesFrom n es → lookup (nat_eq rid) es ≡ Some (Some h)
@@ -119,11 +119,11 @@ status_set rid n s h (e ∷ es) r l = status_by (nat_eq rid e.0) rid e.0 s e.1 h
 pub status_none : (rid : ℕ) (s : Status) (hs : List Held) → held_at rid hs ≡ None → with_status rid s hs ≡ hs
 status_none rid s [] h = refl
 status_none rid s (g ∷ hs) h = none_by (g.rid == rid) g hs rid s h (λ m. status_none rid s hs m)
-    where
-      none_by : (b : Bool) (g : Held) (hs : List Held) (rid : ℕ) (s : Status) → cond b (Some g) (held_at rid hs) ≡ None → (held_at rid hs ≡ None → with_status rid s hs ≡ hs)
-          → cond b (record g { status = s }) g ∷ with_status rid s hs ≡ g ∷ hs
-      none_by true g hs rid s h i = absurd (cc)
-      none_by false g hs rid s h i = ap (λ l. g ∷ l) (i h)
+  where
+    none_by : (b : Bool) (g : Held) (hs : List Held) (rid : ℕ) (s : Status) → cond b (Some g) (held_at rid hs) ≡ None → (held_at rid hs ≡ None → with_status rid s hs ≡ hs)
+        → cond b (record g { status = s }) g ∷ with_status rid s hs ≡ g ∷ hs
+    none_by true g hs rid s h i = absurd (cc)
+    none_by false g hs rid s h i = ap (λ l. g ∷ l) (i h)
 
 -- ---- the ids still rise
 
@@ -140,12 +140,12 @@ rises_set rid n w (e ∷ es) o r = rises_by (nat_eq rid e.0) rid n e.0 e.1 w es 
 pub found_rid : (rid n : ℕ) (h : Held) (es : Slots) → RisesFrom n es → lookup (nat_eq rid) es ≡ Some (Some h) → h.rid ≡ rid
 found_rid rid n h [] r l = absurd (cc)
 found_rid rid n h (e ∷ es) r l = rid_by (nat_eq rid e.0) rid e.0 e.1 h es refl r.1 l (λ m. found_rid rid (e.0 + 1) h es r.2 m)
-    where
-      rid_by : (b : Bool) (rid k : ℕ) (v : Option Held) (h : Held) (es : Slots) → b ≡ nat_eq rid k → HasRid k v → cond b (Some v) (lookup (nat_eq rid) es) ≡ Some (Some h)
-          → (lookup (nat_eq rid) es ≡ Some (Some h) → h.rid ≡ rid) → h.rid ≡ rid
-      rid_by true rid k None h es e o l i = absurd (cc)
-      rid_by true rid k (Some g) h es e o l i = let q : g ≡ h = (cc) in ap (λ (x : Held). x.rid) (sym q) ∙ o ∙ sym (same_nat rid k e)
-      rid_by false rid k v h es e o l i = i l
+  where
+    rid_by : (b : Bool) (rid k : ℕ) (v : Option Held) (h : Held) (es : Slots) → b ≡ nat_eq rid k → HasRid k v → cond b (Some v) (lookup (nat_eq rid) es) ≡ Some (Some h)
+        → (lookup (nat_eq rid) es ≡ Some (Some h) → h.rid ≡ rid) → h.rid ≡ rid
+    rid_by true rid k None h es e o l i = absurd (cc)
+    rid_by true rid k (Some g) h es e o l i = let q : g ≡ h = (cc) in ap (λ (x : Held). x.rid) (sym q) ∙ o ∙ sym (same_nat rid k e)
+    rid_by false rid k v h es e o l i = i l
 
 -- ---- which slots have a record
 

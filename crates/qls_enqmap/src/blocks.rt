@@ -1,13 +1,15 @@
 // How many records there are in each block of slots: by these counts the record at a place is found without going over
 // all slots before it.
-use qls_model::NoMemory;
-use std::alloc::Global;
-
 ghost use Rattle.std.specs.Prelude.{◌≡◌, ℕ, ◌+◌, ◌-◌, ◌*◌, ◌/◌, ◌<◌, ◌≤◌, ◌^◌, true, min, length, slice_index_or, IfOk, IfErr};
 ghost use Rattle.qls_enqmap.specs.Slots.{Slots, before, occupied, all_of, Gains, Loses, IsCounted, AreCounted, HasRoom};
 
+use qls_model::NoMemory;
+use std::alloc::Global;
+
 const SMALL: usize = 64;
+
 const MIDDLE: usize = 4_096;
+
 const LARGE: usize = 262_144;
 
 // The counts of blocks of 64, of 4,096 and of 262,144 slots.

@@ -5,9 +5,10 @@ mod blocks;
 mod map;
 mod places;
 mod slots;
+#[cfg(test)]
+mod tests;
 
 pub use map::EnqMap;
-
 use qls_model::{Bytes, Status};
 
 /// A message that a queue holds: its record's id, its status and body, and the numbers of the files in which its

@@ -1,11 +1,11 @@
 // The records at places, among the slots.
-use crate::Held;
-use crate::blocks::{Blocks, pass_blocks};
-use crate::slots::{Slots, next_held};
-
 ghost use Rattle.std.specs.Prelude.{◌≡◌, ℕ, ◌+◌, ◌<◌, ◌≤◌, true, length, take, drop, slice_get, option_copied};
 ghost use Rattle.qls_enqmap.specs.Records.{least_file, lesser};
 ghost use Rattle.qls_enqmap.specs.Slots.{before, AreCounted, held_in, occupied, none_of, first_of, record_in, file_in, FilesRise, IsPlace};
+
+use crate::Held;
+use crate::blocks::{Blocks, pass_blocks};
+use crate::slots::{Slots, next_held};
 
 // The record in the slot at a place.
 pub(crate) fn held_at_place(slots: &Slots, place: usize) -> Option<&Held>

@@ -1,14 +1,14 @@
 // Slots by rising record id; each has a record, or is a hole where one went out.
-use crate::Held;
-use crate::blocks::{Blocks, count_all};
-use indexmap::IndexMap;
-use qls_model::{NoMemory, Status};
-
 ghost use Rattle.std.specs.Prelude.{◌≡◌, ℕ, None, IfSome, ◌+◌, ◌≤◌, ◌<◌, ◌^◌, Option, Some, true, not, [], ◌∷◌, ◌++◌, length, take, drop, min, option_copied, is_some, IfNone, IfOk, IfErr, if◌then◌else◌};
 ghost use Rattle.std.specs.List.{filter};
 ghost use Rattle.qls_enqmap.specs.declared.Held.{Held};
 ghost use Rattle.qls_enqmap.specs.Records.{held_at, with_status, without};
 ghost use Rattle.qls_enqmap.specs.Slots.{before, held_in, occupied, Loses, IsSlotOf, AreCounted, none_of, first_of, last_of, all_of, last_file, slot_file, restatus, RisesFrom, RidsBelow, FilesRise};
+
+use crate::Held;
+use crate::blocks::{Blocks, count_all};
+use indexmap::IndexMap;
+use qls_model::{NoMemory, Status};
 
 pub(crate) type Slots = IndexMap<u64, Option<Held>>;
 

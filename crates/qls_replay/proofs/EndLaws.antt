@@ -132,7 +132,7 @@ skip_all : (c : Bool) (ops : List Op) (h : Held) → ((op : Op) → has_op op op
 skip_all c [] h n = refl
 skip_all c (op ∷ ops) h n =
     skip_by (h.rid == rid_of op) c op ops h refl (λ e. n op (has_first op ops) (eq_true h.rid (rid_of op) e))
-        (skip_all c ops h (λ o m r. n o (has_later o op ops m) r))
+    (skip_all c ops h (λ o m r. n o (has_later o op ops m) r))
 
 -- once it is ready it stays so
 stay_by : (b : Bool) (c : Bool) (op o : Op) (ops : List Op) (h : Held) → b ≡ (h.rid == rid_of op) → keeps c o ≡ true → (b ≡ true → op ≡ o) → each_all c ops (readied h) ≡ Some (readied h)
@@ -145,7 +145,7 @@ stay_all : (c : Bool) (o : Op) (ops : List Op) (h : Held) → keeps c o ≡ true
 stay_all c o [] h k s = refl
 stay_all c o (op ∷ ops) h k s =
     stay_by (h.rid == rid_of op) c op o ops h refl k (λ e. s op (has_first op ops) (eq_true h.rid (rid_of op) e))
-        (stay_all c o ops h k (λ p m r. s p (has_later p op ops m) r))
+    (stay_all c o ops h k (λ p m r. s p (has_later p op ops m) r))
 
 kept_then : (k : Bool) (c : Bool) (o : Op) (ops : List Op) (h : Held) → keeps c o ≡ k → ((op : Op) → has_op op ops ≡ true → rid_of op ≡ h.rid → op ≡ o)
     → and_then (kept_if k h) (each_all c ops) ≡ kept_if k h
@@ -164,16 +164,16 @@ some_by true c op o ops h e r s t m i =
     ap (λ k. and_then (kept_if k h) (each_all c ops)) (ap (keeps c) (s refl)) ∙ kept_then (keeps c o) c o ops h refl t
 some_by false c op o ops h e r s t m i =
     i (not_same (same_op o op) (has_op o ops) (λ q. let d : (h.rid == rid_of op) ≡ true = eq_back h.rid (rid_of op) (sym r ∙ same_rid o op q) in absurd (cc)) m)
-    where
-      eq_back : (a b : ℕ) → a ≡ b → (a == b) ≡ true
-      eq_back a b h = grind arith
+  where
+    eq_back : (a b : ℕ) → a ≡ b → (a == b) ≡ true
+    eq_back a b h = grind arith
 
 some_all : (c : Bool) (o : Op) (ops : List Op) (h : Held) → rid_of o ≡ h.rid → ((op : Op) → has_op op ops ≡ true → rid_of op ≡ h.rid → op ≡ o) → has_op o ops ≡ true
     → each_all c ops h ≡ kept_if (keeps c o) h
 some_all c o [] h r s m = absurd (cc)
 some_all c o (op ∷ ops) h r s m =
     some_by (h.rid == rid_of op) c op o ops h refl r (λ e. s op (has_first op ops) (eq_true h.rid (rid_of op) e)) (λ p n q. s p (has_later p op ops n) q) m
-        (λ n. some_all c o ops h r (λ p k q. s p (has_later p op ops k) q) n)
+    (λ n. some_all c o ops h r (λ p k q. s p (has_later p op ops k) q) n)
 
 -- ---- what the end leaves of one record
 
@@ -215,15 +215,15 @@ status_by (Going y) c x ops h e o a = going_by (same x y) c x y ops h e o a
 op_rid_by : (x : List ℕ) (rid : ℕ) (s : Status) (o : Op) → op_by_status x rid s ≡ Some o → rid_of o ≡ rid
 op_rid_by x rid Ready o e = absurd (cc)
 op_rid_by x rid (Coming y) o e = put_rid (same x y) rid o e
-    where
-      put_rid : (b : Bool) (rid : ℕ) (o : Op) → cond b (Some (Put rid)) None ≡ Some o → rid_of o ≡ rid
-      put_rid true rid o e = let f : Put rid ≡ o = (cc) in sym (ap rid_of f)
-      put_rid false rid o e = absurd (cc)
+  where
+    put_rid : (b : Bool) (rid : ℕ) (o : Op) → cond b (Some (Put rid)) None ≡ Some o → rid_of o ≡ rid
+    put_rid true rid o e = let f : Put rid ≡ o = (cc) in sym (ap rid_of f)
+    put_rid false rid o e = absurd (cc)
 op_rid_by x rid (Going y) o e = take_rid (same x y) rid o e
-    where
-      take_rid : (b : Bool) (rid : ℕ) (o : Op) → cond b (Some (Take rid)) None ≡ Some o → rid_of o ≡ rid
-      take_rid true rid o e = let f : Take rid ≡ o = (cc) in sym (ap rid_of f)
-      take_rid false rid o e = absurd (cc)
+  where
+    take_rid : (b : Bool) (rid : ℕ) (o : Op) → cond b (Some (Take rid)) None ≡ Some o → rid_of o ≡ rid
+    take_rid true rid o e = let f : Take rid ≡ o = (cc) in sym (ap rid_of f)
+    take_rid false rid o e = absurd (cc)
 
 other_by : (b : Bool) (op o : Op) → b ≡ same_op op o → (rid_of op ≡ rid_of o → ⊥) → same_op op o ≡ false
 other_by true op o e n = absurd (n (same_rid op o (sym e)))
@@ -247,10 +247,10 @@ none_in x n op (h ∷ hs) r l =
 only_by : (v : Option Op) (op : Op) (rest : List Op) → has_op op (cons_option v rest) ≡ true → has_op op rest ≡ false → v ≡ Some op
 only_by None op rest h n = let e : true ≡ false = sym h ∙ n in absurd (cc)
 only_by (Some o) op rest h n = some_same (same_op op o) op o rest refl h n
-    where
-      some_same : (b : Bool) (op o : Op) (rest : List Op) → b ≡ same_op op o → (b || has_op op rest) ≡ true → has_op op rest ≡ false → Some o ≡ Some op
-      some_same true op o rest e h n = ap Some (sym (same_eq op o (sym e)))
-      some_same false op o rest e h n = let f : true ≡ false = sym h ∙ n in absurd (cc)
+  where
+    some_same : (b : Bool) (op o : Op) (rest : List Op) → b ≡ same_op op o → (b || has_op op rest) ≡ true → has_op op rest ≡ false → Some o ≡ Some op
+    some_same true op o rest e h n = ap Some (sym (same_eq op o (sym e)))
+    some_same false op o rest e h n = let f : true ≡ false = sym h ∙ n in absurd (cc)
 
 all_by : (v : Option Op) (op : Op) (rest : List Op) → v ≡ Some op → has_op op (cons_option v rest) ≡ true
 all_by v op rest e = ap (λ o. has_op op (cons_option o rest)) e ∙ has_first op rest
@@ -265,10 +265,10 @@ end_from : (c : Bool) (x : List ℕ) (ops : List Op) (n : ℕ) (hs : List Held) 
 end_from c x ops n [] r a = refl
 end_from c x ops n (h ∷ hs) r a =
     two (each_all c ops h) (held_as h (left_by (only x (verdict_if c)) h.status (message_of h))) (filter_map (each_all c ops) hs) (ended_held x (verdict_if c) hs)
-        (status_by h.status c x ops h refl
-            (λ op m q. only_by (op_by x h) op (ops_in x hs) (sym (a op (omega (arith, r.0))) ∙ m) (none_in x (h.rid + 1) op hs r.1 (omega arith)))
-            (λ op e. a op (let q = op_rid_by x h.rid h.status op e in omega (arith, r.0)) ∙ all_by (op_by x h) op (ops_in x hs) e))
-        (end_from c x ops (h.rid + 1) hs r.1 (λ op l. a op (omega (arith, r.0)) ∙ skip_op x h op (ops_in x hs) (λ e. absurd (omega arith))))
+    (status_by h.status c x ops h refl
+    (λ op m q. only_by (op_by x h) op (ops_in x hs) (sym (a op (omega (arith, r.0))) ∙ m) (none_in x (h.rid + 1) op hs r.1 (omega arith)))
+    (λ op e. a op (let q = op_rid_by x h.rid h.status op e in omega (arith, r.0)) ∙ all_by (op_by x h) op (ops_in x hs) e))
+    (end_from c x ops (h.rid + 1) hs r.1 (λ op l. a op (omega (arith, r.0)) ∙ skip_op x h op (ops_in x hs) (λ e. absurd (omega arith))))
 
 -- each operation that the records show by x, carried out, leaves what the end of x leaves
 pub all_ended : (c : Bool) (x : List ℕ) (ops : List Op) (hs : List Held) → RidsFrom 0 hs → ((op : Op) → has_op op ops ≡ has_op op (ops_in x hs))

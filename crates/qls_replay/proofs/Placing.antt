@@ -69,7 +69,7 @@ insert_by Equal k v p ps e a i =
 insert_by Greater k v p ps e a i =
     ap (λ l. entry_for p ∷ l) i
     ∙ sym (ap (λ t. placed_entry (entry_for (k, v)) (cond (not t) (entry_for p ∷ without_entry k (entries_of ps)) (without_entry k (entries_of ps)))) (same_cmp k p.0 Greater e)
-        ∙ ap (λ c. cond (is_lt c) (entry_for (k, v) ∷ entry_for p ∷ without_entry k (entries_of ps)) (entry_for p ∷ placed_entry (entry_for (k, v)) (without_entry k (entries_of ps)))) (sym e))
+    ∙ ap (λ c. cond (is_lt c) (entry_for (k, v) ∷ entry_for p ∷ without_entry k (entries_of ps)) (entry_for p ∷ placed_entry (entry_for (k, v)) (without_entry k (entries_of ps)))) (sym e))
 
 pub inserted : (k : List ℕ) (v : ℕ × ListState) (ps : List Pair) → InOrder ps → entries_of (insert_entry (slice_cmp nat_cmp) ps k v) ≡ with_entry (entry_for (k, v)) (entries_of ps)
 inserted k v [] o = refl

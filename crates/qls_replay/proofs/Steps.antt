@@ -29,16 +29,17 @@ xid_some (b ∷ x) e = refl
 
 lock_status : (s : Status) (r : Result (Unit {0}) EnqFault) (h : Held) → s ≡ h.status → r ≡ lock_answer (Some h) → may_take (Some h) ≡ not (is_err r)
 lock_status s r h e a = by s h e ∙ ap (λ q. not (is_err q)) (sym a)
-    where
-      by : (s : Status) (h : Held) → s ≡ h.status → may_take (Some h) ≡ not (is_err (lock_answer (Some h)))
-      by s h e = ap is_ready (sym e) ∙ ready s ∙ ap (λ q. not (is_err (lock_by q))) e
-        where
-          lock_by : Status → Result (Unit {0}) EnqFault
-          lock_by q = lock_answer (Some (record h { status = q }))
-          ready : (q : Status) → is_ready q ≡ not (is_err (lock_answer (Some (record h { status = q }))))
-          ready Ready = refl
-          ready (Coming x) = refl
-          ready (Going x) = refl
+  where
+    by : (s : Status) (h : Held) → s ≡ h.status → may_take (Some h) ≡ not (is_err (lock_answer (Some h)))
+    by s h e = ap is_ready (sym e) ∙ ready s ∙ ap (λ q. not (is_err (lock_by q))) e
+      where
+        lock_by : Status → Result (Unit {0}) EnqFault
+        lock_by q = lock_answer (Some (record h { status = q }))
+
+        ready : (q : Status) → is_ready q ≡ not (is_err (lock_answer (Some (record h { status = q }))))
+        ready Ready = refl
+        ready (Coming x) = refl
+        ready (Going x) = refl
 
 pub lock_taken : (o : Option Held) (r : Result (Unit {0}) EnqFault) → r ≡ lock_answer o → may_take o ≡ not (is_err r)
 lock_taken None r a = ap (λ q. not (is_err q)) (sym a)

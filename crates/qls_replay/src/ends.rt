@@ -1,14 +1,14 @@
 // The end of a transaction in a queue.
-use qls_enqmap::EnqMap;
-use qls_model::Xid;
-use qls_txnmap::{Op, TxnMap};
-
 ghost use Rattle.std.specs.Prelude.{◌≡◌, ℕ, List, if◌then◌else◌};
 ghost use Rattle.qls_model.specs.declared.machine.Status.TheVariants.{Ready};
 ghost use Rattle.qls_enqmap.specs.Records.{with_status, without, RidsRise};
 ghost use Rattle.qls_txnmap.specs.Pending.{ops_of, ops_without};
 ghost use Rattle.qls_replay.specs.Held.{ended_held};
 ghost use Rattle.qls_replay.specs.Ops.{ended, ended_all, verdict_if, Agrees};
+
+use qls_enqmap::EnqMap;
+use qls_model::Xid;
+use qls_txnmap::{Op, TxnMap};
 
 /// Ends a transaction in what a queue holds. With a commit what it put stays and is ready, and what it took goes; with
 /// an abort it is the other way round. A transaction without operations changes nothing.

@@ -1,9 +1,4 @@
 // The records of a queue that put and take messages.
-use qls_enqmap::{EnqMap, Held};
-use qls_model::{NoMemory, Status, Xid};
-use qls_record::Got;
-use qls_txnmap::{Op, TxnMap};
-
 ghost use Rattle.std.specs.Prelude.{◌≡◌, ◌++◌, ◌∷◌, [], Some, None, IfOk, IfErr, option_copied};
 ghost use Rattle.qls_model.specs.Messages.{status_of};
 ghost use Rattle.qls_enqmap.specs.Records.{AllBelow, RidsRise};
@@ -12,6 +7,11 @@ ghost use Rattle.qls_meaning.specs.Reading.{read_of};
 ghost use Rattle.qls_meaning.specs.Replay.{xid_in, left_by_take};
 ghost use Rattle.qls_replay.specs.Held.{held_of, left_held, may_take, IsSound};
 ghost use Rattle.qls_replay.specs.Ops.{Agrees};
+
+use qls_enqmap::{EnqMap, Held};
+use qls_model::{NoMemory, Status, Xid};
+use qls_record::Got;
+use qls_txnmap::{Op, TxnMap};
 
 // Coming by the transaction; ready where the record has none.
 fn coming(xid: Xid) -> Status

@@ -6,5 +6,5 @@ pub returns : goal.returns
 returns c = record {
   counted = λ es us i l m a.
       counted_all c.args.width c.args.slots c.loop-block.counts.items c.args.counts.now.items es us i c.loop-block.invariant.long l m a
-          (λ b h. c.loop-block.invariant.filled b (omega (arith, c.loop-block-test.false, c.len-block-end.ensures, c.loop-block.invariant.long)));
+      (λ b h. c.loop-block.invariant.filled b (omega (arith, c.loop-block-test.false, c.len-block-end.ensures, c.loop-block.invariant.long)));
 }

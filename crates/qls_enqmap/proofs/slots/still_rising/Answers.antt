@@ -12,5 +12,5 @@ returns-then-rising c = record {
   small = omega arith;
   rising = λ t h e.
       files_more (held_in c.args.slots.now.entries) h c.args.file e (c.requires.files c.if-rising.true)
-          (subst (λ n. n ≤ c.args.file) c.file_of_last.ensures.file (le_by c.file_of_last.result c.args.file t));
+      (subst (λ n. n ≤ c.args.file) c.file_of_last.ensures.file (le_by c.file_of_last.result c.args.file t));
 }

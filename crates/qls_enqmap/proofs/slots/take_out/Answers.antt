@@ -13,5 +13,5 @@ returns-in-Some c =
 pub returns-in-None : goal.returns-in-None
 returns-in-None c =
     let a = none_taken c.args.rid c.args.slots.now.entries c.get_mut.follows.lender-at-none.entries c.requires.rises c.in-None.ensures.value
-        (ap (λ m. m.entries) c.get_mut.follows.holds-at-none) in
+    (ap (λ m. m.entries) c.get_mut.follows.holds-at-none) in
     record { found = a.found; left = a.left; rises = a.rises; holes = a.holes; long = a.long; unknown = a.unknown; loses = a.loses; fewer = a.fewer }

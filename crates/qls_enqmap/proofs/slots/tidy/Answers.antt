@@ -22,4 +22,4 @@ returns-then-len-count-clause-counted c = λ a.
     let us = c.close_up.new.slots.entries in
     let b = counts_same c.args.blocks.now c.args.slots.now.entries es a c.trim_end.ensures.before c.trim_end.ensures.shorter in
     c.count_all.ensures.counted es us b (subst (λ x. length x ≤ length es) (sym c.close_up.ensures.closed) (shorter-closed es)) (sym c.len-then-len-count.ensures.len)
-        (subst (λ x. all_of (occupied x) ≡ true) (sym c.close_up.ensures.closed) (all-closed es))
+    (subst (λ x. all_of (occupied x) ≡ true) (sym c.close_up.ensures.closed) (all-closed es))

@@ -10,7 +10,7 @@ not_true false h = refl
 pub loop-slots-preserved-in-loop-slots : goal.loop-slots-preserved-in-loop-slots
 loop-slots-preserved-in-loop-slots c =
     let t : Trims c.loop-slots.slots.entries c.pop.new.self.entries =
-        trims c.loop-slots.slots.entries c.pop.new.self.entries c.pop.result c.pop.ensures.entries (not_true _ (sym c.loop-slots-test.true ∙ c.last_is_hole.ensures.hole)) in
+    trims c.loop-slots.slots.entries c.pop.new.self.entries c.pop.result c.pop.ensures.entries (not_true _ (sym c.loop-slots-test.true ∙ c.last_is_hole.ensures.hole)) in
     record {
       held = t.held ∙ c.loop-slots.invariant.held;
       before = λ n. t.before n ∙ c.loop-slots.invariant.before n;
@@ -22,7 +22,7 @@ loop-slots-preserved-in-loop-slots c =
 pub loop-slots-preserved-in-loop-slots-2 : goal.loop-slots-preserved-in-loop-slots-2
 loop-slots-preserved-in-loop-slots-2 c =
     let t : Trims c.loop-slots.slots.entries c.pop.new.self.entries =
-        trims c.loop-slots.slots.entries c.pop.new.self.entries c.pop.result c.pop.ensures.entries (not_true _ (sym c.loop-slots-test.true ∙ c.last_is_hole.ensures.hole)) in
+    trims c.loop-slots.slots.entries c.pop.new.self.entries c.pop.result c.pop.ensures.entries (not_true _ (sym c.loop-slots-test.true ∙ c.last_is_hole.ensures.hole)) in
     record {
       held = t.held ∙ c.loop-slots.invariant.held;
       before = λ n. t.before n ∙ c.loop-slots.invariant.before n;

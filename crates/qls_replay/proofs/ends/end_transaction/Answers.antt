@@ -18,7 +18,7 @@ returns-in-Some-clause-agrees c =
     let x = c.args.xid.now in
     let e = handed_is c.in-Some.ops (ops_of x c.args.txns.now) c.in-Some.ensures.handed in
     let d = c.end_ops.ensures.ended ∙ ap (λ ops. ended_all c.args.commit ops c.args.held.now) c.as_slice.ensures.same
-        ∙ all_ended c.args.commit x c.in-Some.ops c.args.held.now c.requires.rising (λ op. ap (has_op op) e ∙ c.requires.agrees x op) in
+    ∙ all_ended c.args.commit x c.in-Some.ops c.args.held.now c.requires.rising (λ op. ap (has_op op) e ∙ c.requires.agrees x op) in
     agrees_ended c.args.commit x c.args.held.now c.end_ops.new.held c.args.txns.now c.finish.new.self c.requires.agrees d c.finish.ensures.removed
 
 pub returns-in-None-clause-ended : goal.returns-in-None-clause-ended

@@ -48,8 +48,8 @@ returns-then-is_undecided-clause-decided c =
     let f = entry_found got.xid c.args.entries.now.entries (Some (c.in-Some.rid, c.in-Some.state)) (sym c.in-Some.is ∙ c.copied.ensures ∙ c.get.ensures.value) in
     let e : ListEntry = entry_for (got.xid, (c.in-Some.rid, c.in-Some.state)) in
     let d = ap (λ o. decide_entry r o es) f
-        ∙ decided_by r e es true (both (c.in-Some.rid == got.head.target) (is_undecided c.in-Some.state) (equal c.in-Some.rid got.head.target c.if-rid-got.true) (sym c.is_undecided.ensures.undecided ∙ c.if-is_undecided.true))
-        ∙ ap {A = ListState} (λ s. with_entry (record e { state = s }) es) (sym c.decision.ensures.decided) in
+    ∙ decided_by r e es true (both (c.in-Some.rid == got.head.target) (is_undecided c.in-Some.state) (equal c.in-Some.rid got.head.target c.if-rid-got.true) (sym c.is_undecided.ensures.undecided ∙ c.if-is_undecided.true))
+    ∙ ap {A = ListState} (λ s. with_entry (record e { state = s }) es) (sym c.decision.ensures.decided) in
     subst (λ l. IfOk c.set.result (λ _. entries_of c.set.new.entries.entries ≡ l)) (sym d) c.set.ensures.set
 
 pub returns-then-is_undecided-clause-fewer : goal.returns-then-is_undecided-clause-fewer
@@ -70,6 +70,6 @@ returns-else-rid-got-clause-decided c =
     let f = entry_found got.xid c.args.entries.now.entries (Some (c.in-Some.rid, c.in-Some.state)) (sym c.in-Some.is ∙ c.copied.ensures ∙ c.get.ensures.value) in
     let e : ListEntry = entry_for (got.xid, (c.in-Some.rid, c.in-Some.state)) in
     elim c.else-rid-got.branch [
-      else-rid-got-via-then-rid-got+else-is_undecided w ↦ sym (ap (λ o. decide_entry r o es) f ∙ decided_by r e es false (second_not (c.in-Some.rid == got.head.target) (is_undecided c.in-Some.state) (sym w.is_undecided.ensures.undecided ∙ w.if-is_undecided.false)))
-    | else-rid-got-via-else-rid-got w ↦ sym (ap (λ o. decide_entry r o es) f ∙ decided_by r e es false (first_not (c.in-Some.rid == got.head.target) (is_undecided c.in-Some.state) (differs c.in-Some.rid got.head.target w.if-rid-got.false)))
+      | else-rid-got-via-then-rid-got+else-is_undecided w ↦ sym (ap (λ o. decide_entry r o es) f ∙ decided_by r e es false (second_not (c.in-Some.rid == got.head.target) (is_undecided c.in-Some.state) (sym w.is_undecided.ensures.undecided ∙ w.if-is_undecided.false)))
+      | else-rid-got-via-else-rid-got w ↦ sym (ap (λ o. decide_entry r o es) f ∙ decided_by r e es false (first_not (c.in-Some.rid == got.head.target) (is_undecided c.in-Some.state) (differs c.in-Some.rid got.head.target w.if-rid-got.false)))
     ]

@@ -24,4 +24,4 @@ returns-clause-known c = λ s.
     let es = c.args.entries.now.entries in
     let k = c.args.xid in
     known_len (length c.insert.new.self.entries) (length es) (is_some c.in_ok-insert.field-0) c.in_ok-insert.ensures.len
-        (ap is_some (c.in_ok-insert.ensures.old ∙ ap (λ f. lookup (is_at (f k)) es) xid_cmp_is) ∙ sym (found_same k es) ∙ s)
+    (ap is_some (c.in_ok-insert.ensures.old ∙ ap (λ f. lookup (is_at (f k)) es) xid_cmp_is) ∙ sym (found_same k es) ∙ s)

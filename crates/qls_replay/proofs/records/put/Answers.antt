@@ -46,6 +46,6 @@ returns-in-Err-clause-sound c =
     let h = held_of (read_of c.args.got.now) in
     let n = c.args.got.now.head.rid in
     let back = gone n c.insert.new.self c.remove-taken_back.new.self c.remove-taken_back.result c.remove-taken_back.ensures.answer c.remove-taken_back.ensures.left c.remove-taken_back.ensures.refused
-        ∙ ap (λ l. without n l) (c.in_ok-insert.ensures.inserted ∙ ap (λ r. hs ++ r ∷ []) c.in_ok-record.ensures.held)
-        ∙ without_last n h hs c.requires.above refl in
+    ∙ ap (λ l. without n l) (c.in_ok-insert.ensures.inserted ∙ ap (λ r. hs ++ r ∷ []) c.in_ok-record.ensures.held)
+    ∙ without_last n h hs c.requires.above refl in
     subst (λ l. IsSound l c.add.new.self) (sym back) (subst (λ t. IsSound hs t) (sym c.in-Err.ensures.refused) c.requires.sound)

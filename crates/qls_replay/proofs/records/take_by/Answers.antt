@@ -52,6 +52,6 @@ returns-in-Err-clause-sound c =
     let e = sym c.is_err.ensures.value ∙ c.if-is_err.false in
     let f = found n hs (lock_taken _ c.lock.result c.lock.ensures.answer ∙ ap not e) in
     let back = unlocked n c.lock.new.self c.unlock-taken_back.new.self c.unlock-taken_back.result c.unlock-taken_back.ensures.answer c.unlock-taken_back.ensures.unlocked c.unlock-taken_back.ensures.refused
-        ∙ ap (λ l. with_status n Ready l) (ok_then c.lock.result (c.lock.new.self ≡ with_status n (Going c.args.xid) hs) e c.lock.ensures.locked)
-        ∙ status_back n 0 (Going c.args.xid) f.0 hs c.requires.sound.rising f.1 (is_ready_then f.0.status f.2) in
+    ∙ ap (λ l. with_status n Ready l) (ok_then c.lock.result (c.lock.new.self ≡ with_status n (Going c.args.xid) hs) e c.lock.ensures.locked)
+    ∙ status_back n 0 (Going c.args.xid) f.0 hs c.requires.sound.rising f.1 (is_ready_then f.0.status f.2) in
     subst (λ l. IsSound l c.add.new.self) (sym back) (subst (λ t. IsSound hs t) (sym c.in-Err.ensures.refused) c.requires.sound)

@@ -19,7 +19,7 @@ returns-then-is_takeable-clause-agrees c = λ t a.
     let n = c.args.target in
     let f = found n hs (sym (c.is_takeable.ensures.ready ∙ ap may_take c.get.ensures.found) ∙ c.if-is_takeable.true) in
     agrees_gone n f.0 hs c.remove-taken.new.self t a c.requires.rising f.1 f.2
-        (gone n hs c.remove-taken.new.self c.remove-taken.result c.remove-taken.ensures.answer c.remove-taken.ensures.left c.remove-taken.ensures.refused)
+    (gone n hs c.remove-taken.new.self c.remove-taken.result c.remove-taken.ensures.answer c.remove-taken.ensures.left c.remove-taken.ensures.refused)
 
 pub returns-else-is_takeable-clause-taken : goal.returns-else-is_takeable-clause-taken
 returns-else-is_takeable-clause-taken c =

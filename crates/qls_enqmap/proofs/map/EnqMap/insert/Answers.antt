@@ -17,16 +17,16 @@ overflow_add-self c = omega (arith, few c.self.inside.slots.entries, c.self.inva
 pub invariant_of-self-2 : goal.invariant_of-self-2
 invariant_of-self-2 c =
     kept_more c.self.inside.slots.entries c.put_last.new.slots.entries c.self.inside.blocks c.count_more.new.blocks c.args.held c.self.inside.count c.self.inside.start c.self.inside.rising c.still_rising-rising.result
-        c.self.invariant
-        (rids_below 0 c.args.held.rid c.self.inside.slots.entries c.self.invariant.rises c.self.invariant.last (subst (λ hs. AllBelow c.args.held.rid hs) (sym c.self.view_is) c.requires.above))
-        c.in_ok-put_last.ensures.put
-        (let es = c.self.inside.slots.entries in
-         let us = c.put_last.new.slots.entries in
-         let l : length es ≡ c.len-place.result = sym c.len-place.ensures.len in
-         let n = ap length c.in_ok-put_last.ensures.put in
-         c.count_more.ensures.counted es us (c.make_room.ensures.counted es l c.self.invariant.blocks_counted) (c.in_ok-make_room.ensures.room es l c.self.invariant.blocks_counted)
-             (omega (arith, l, c.len-place.ensures.small)) (omega (arith, n, l, length-append es ((c.args.held.rid, Some c.args.held) ∷ [])))
-             (subst (λ p. Gains es us p) l (gains_last es us c.args.held.rid c.args.held c.in_ok-put_last.ensures.put))) (λ t. c.still_rising-rising.ensures.rising t c.args.held refl)
+    c.self.invariant
+    (rids_below 0 c.args.held.rid c.self.inside.slots.entries c.self.invariant.rises c.self.invariant.last (subst (λ hs. AllBelow c.args.held.rid hs) (sym c.self.view_is) c.requires.above))
+    c.in_ok-put_last.ensures.put
+    (let es = c.self.inside.slots.entries in
+    let us = c.put_last.new.slots.entries in
+    let l : length es ≡ c.len-place.result = sym c.len-place.ensures.len in
+    let n = ap length c.in_ok-put_last.ensures.put in
+    c.count_more.ensures.counted es us (c.make_room.ensures.counted es l c.self.invariant.blocks_counted) (c.in_ok-make_room.ensures.room es l c.self.invariant.blocks_counted)
+    (omega (arith, l, c.len-place.ensures.small)) (omega (arith, n, l, length-append es ((c.args.held.rid, Some c.args.held) ∷ [])))
+    (subst (λ p. Gains es us p) l (gains_last es us c.args.held.rid c.args.held c.in_ok-put_last.ensures.put))) (λ t. c.still_rising-rising.ensures.rising t c.args.held refl)
 
 pub returns-clause-inserted : goal.returns-clause-inserted
 returns-clause-inserted c =
@@ -35,16 +35,16 @@ returns-clause-inserted c =
 pub returns-clause-rising : goal.returns-clause-rising
 returns-clause-rising c =
     rids_rise 0 c.put_last.new.slots.entries (kept_more c.self.inside.slots.entries c.put_last.new.slots.entries c.self.inside.blocks c.count_more.new.blocks c.args.held c.self.inside.count c.self.inside.start c.self.inside.rising c.still_rising-rising.result
-        c.self.invariant
-        (rids_below 0 c.args.held.rid c.self.inside.slots.entries c.self.invariant.rises c.self.invariant.last (subst (λ hs. AllBelow c.args.held.rid hs) (sym c.self.view_is) c.requires.above))
-        c.in_ok-put_last.ensures.put
-        (let es = c.self.inside.slots.entries in
-         let us = c.put_last.new.slots.entries in
-         let l : length es ≡ c.len-place.result = sym c.len-place.ensures.len in
-         let n = ap length c.in_ok-put_last.ensures.put in
-         c.count_more.ensures.counted es us (c.make_room.ensures.counted es l c.self.invariant.blocks_counted) (c.in_ok-make_room.ensures.room es l c.self.invariant.blocks_counted)
-             (omega (arith, l, c.len-place.ensures.small)) (omega (arith, n, l, length-append es ((c.args.held.rid, Some c.args.held) ∷ [])))
-             (subst (λ p. Gains es us p) l (gains_last es us c.args.held.rid c.args.held c.in_ok-put_last.ensures.put))) (λ t. c.still_rising-rising.ensures.rising t c.args.held refl)).rises
+    c.self.invariant
+    (rids_below 0 c.args.held.rid c.self.inside.slots.entries c.self.invariant.rises c.self.invariant.last (subst (λ hs. AllBelow c.args.held.rid hs) (sym c.self.view_is) c.requires.above))
+    c.in_ok-put_last.ensures.put
+    (let es = c.self.inside.slots.entries in
+    let us = c.put_last.new.slots.entries in
+    let l : length es ≡ c.len-place.result = sym c.len-place.ensures.len in
+    let n = ap length c.in_ok-put_last.ensures.put in
+    c.count_more.ensures.counted es us (c.make_room.ensures.counted es l c.self.invariant.blocks_counted) (c.in_ok-make_room.ensures.room es l c.self.invariant.blocks_counted)
+    (omega (arith, l, c.len-place.ensures.small)) (omega (arith, n, l, length-append es ((c.args.held.rid, Some c.args.held) ∷ [])))
+    (subst (λ p. Gains es us p) l (gains_last es us c.args.held.rid c.args.held c.in_ok-put_last.ensures.put))) (λ t. c.still_rising-rising.ensures.rising t c.args.held refl)).rises
 
 pub returns-in_err-put_last-clause-rising : goal.returns-in_err-put_last-clause-rising
 returns-in_err-put_last-clause-rising c = subst (λ es. RidsRise (held_in es)) (sym c.in_err-put_last.ensures.refused) (rids_rise 0 c.self.inside.slots.entries c.self.invariant.rises)

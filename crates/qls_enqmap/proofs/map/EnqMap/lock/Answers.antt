@@ -12,10 +12,10 @@ invariant_of-self c =
     let us = c.set_status.new.slots.entries in
     let s = (Going c.args.xid) in
     kept_status es us c.self.inside.blocks c.self.inside.count c.self.inside.start c.self.inside.rising c.self.invariant
-        (counts_same c.self.inside.blocks es us c.self.invariant.blocks_counted c.set_status.ensures.before (omega (arith, c.set_status.ensures.long)))
-        c.set_status.ensures.rises c.set_status.ensures.occupied c.set_status.ensures.long
-        (same_count c.args.rid s es us c.self.inside.count c.self.invariant.counted c.set_status.ensures.set)
-        (files_set c.args.rid s es us c.set_status.ensures.set)
+    (counts_same c.self.inside.blocks es us c.self.invariant.blocks_counted c.set_status.ensures.before (omega (arith, c.set_status.ensures.long)))
+    c.set_status.ensures.rises c.set_status.ensures.occupied c.set_status.ensures.long
+    (same_count c.args.rid s es us c.self.inside.count c.self.invariant.counted c.set_status.ensures.set)
+    (files_set c.args.rid s es us c.set_status.ensures.set)
 
 pub returns-then-is_ok-clause-rising : goal.returns-then-is_ok-clause-rising
 returns-then-is_ok-clause-rising c = rids_rise 0 c.set_status.new.slots.entries c.set_status.ensures.rises

@@ -12,11 +12,11 @@ invariant_of-self c =
     let count = c.self.inside.count in
     let slot = c.in-Some.ensures.slot in
     let b = c.count_less.ensures.counted es us c.self.invariant.blocks_counted (slot_within es c.in-Some.place c.args.rid slot.0 slot.1) c.take_out.ensures.long
-        (c.in-Some-take_out.ensures.loses c.in-Some.place slot) in
+    (c.in-Some-take_out.ensures.loses c.in-Some.place slot) in
     kept_less c.args.rid es us vs c.self.inside.blocks c.tidy-self-inside.new.blocks count (count - 1) c.self.inside.start c.tidy-self-inside.result c.self.inside.rising c.self.invariant
-        (c.tidy-self-inside.ensures.counted b)
-        c.take_out.ensures.left c.in-Some-take_out.ensures.fewer (omega (arith, c.self.invariant.counted, c.in-Some-take_out.ensures.fewer))
-        c.tidy-self-inside.ensures.held (c.tidy-self-inside.ensures.rises c.take_out.ensures.rises) c.tidy-self-inside.ensures.within c.tidy-self-inside.ensures.holes c.tidy-self-inside.ensures.first c.tidy-self-inside.ensures.last
+    (c.tidy-self-inside.ensures.counted b)
+    c.take_out.ensures.left c.in-Some-take_out.ensures.fewer (omega (arith, c.self.invariant.counted, c.in-Some-take_out.ensures.fewer))
+    c.tidy-self-inside.ensures.held (c.tidy-self-inside.ensures.rises c.take_out.ensures.rises) c.tidy-self-inside.ensures.within c.tidy-self-inside.ensures.holes c.tidy-self-inside.ensures.first c.tidy-self-inside.ensures.last
 
 pub returns-in-Some-take_out-clause-rising : goal.returns-in-Some-take_out-clause-rising
 returns-in-Some-take_out-clause-rising c = rids_rise 0 c.tidy-self-inside.new.slots.entries (c.tidy-self-inside.ensures.rises c.take_out.ensures.rises)

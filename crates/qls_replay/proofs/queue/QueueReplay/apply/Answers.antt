@@ -35,9 +35,9 @@ returns-in-Dequeue-clause-messages c =
     let got = c.args.got.now in
     let change : Message → Option Message = left_by_take got.head.target (xid_in got.xid) in
     if_ok_then c.take.result (c.take.new.held ≡ left_held change c.self.inside.held)
-        ((q : QueueState) → q.messages ≡ messages_of c.args.self.now.held → (after_record got.head.kind (read_of got).what q).messages ≡ messages_of c.take.new.held)
-        (λ t q e.
-            ap (λ k. (after_record k (read_of got).what q).messages) c.in-Dequeue.is
-            ∙ ap (λ ms. filter_map change ms) (e ∙ ap (λ (s : Replayed). messages_of s.held) (sym c.self.view_is))
-            ∙ sym (ap messages_of t ∙ left_messages change (λ m. keeps_take got.head.target (xid_in got.xid) m) c.self.inside.held))
-        c.take.ensures.taken
+    ((q : QueueState) → q.messages ≡ messages_of c.args.self.now.held → (after_record got.head.kind (read_of got).what q).messages ≡ messages_of c.take.new.held)
+    (λ t q e.
+    ap (λ k. (after_record k (read_of got).what q).messages) c.in-Dequeue.is
+    ∙ ap (λ ms. filter_map change ms) (e ∙ ap (λ (s : Replayed). messages_of s.held) (sym c.self.view_is))
+    ∙ sym (ap messages_of t ∙ left_messages change (λ m. keeps_take got.head.target (xid_in got.xid) m) c.self.inside.held))
+    c.take.ensures.taken
