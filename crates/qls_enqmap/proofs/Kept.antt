@@ -154,3 +154,9 @@ rids_by n k (Some g) hs l h r = (subst (λ m. n ≤ m) (sym h) l, subst (λ m. R
 pub rids_rise : (n : ℕ) (es : Slots) → RisesFrom n es → RidsFrom n (held_in es)
 rids_rise n [] r = tt
 rids_rise n (e ∷ es) r = rids_by n e.0 e.1 (held_in es) r.0 r.1 (rids_rise (e.0 + 1) es r.2)
+
+-- ---- ids put one after another
+
+pub below_more : (n m : ℕ) (h : Held) (hs : List Held) → AllBelow n hs → n ≤ m → h.rid < m → AllBelow m (hs ++ h ∷ [])
+below_more n m h [] b l r = (r, tt)
+below_more n m h (g ∷ hs) b l r = (omega (arith, b.0), below_more n m h hs b.1 l r)

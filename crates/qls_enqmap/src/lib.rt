@@ -5,6 +5,8 @@ mod blocks;
 mod map;
 mod places;
 mod slots;
+#[cfg(test)]
+mod tests;
 
 pub use map::EnqMap;
 use qls_model::{Bytes, Status};

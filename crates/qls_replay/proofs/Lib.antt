@@ -4,3 +4,5 @@ pub mod Agreeing
 pub mod Decided
 pub mod Steps
 pub mod Placing
+pub mod Above
+pub mod Whole

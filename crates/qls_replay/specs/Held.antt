@@ -1,5 +1,5 @@
 -- What the records of a queue leave held: the messages of its replay, each with the files of its enqueue.
-use Rattle.std.specs.Prelude.{ℕ, Bool, false, List, [], ◌∷◌, ◌++◌, map, Option, Some, None}
+use Rattle.std.specs.Prelude.{ℕ, Bool, false, ◌&&◌, ◌==◌, List, [], ◌∷◌, ◌++◌, map, Option, Some, None}
 use Rattle.std.specs.List.{filter_map}
 use Rattle.qls_model.specs.Machine.{is_ready}
 use Rattle.qls_model.specs.Messages.{status_of, left_by, only}
@@ -8,6 +8,7 @@ use Rattle.qls_model.specs.declared.machine.Verdict.{Verdict}
 use Rattle.qls_model.specs.declared.machine.Verdict.TheVariants as verdict
 use Rattle.qls_record.specs.declared.Kind.{Kind}
 use Rattle.qls_record.specs.declared.Kind.TheVariants.{Enqueue, Dequeue, Commit, Abort, Filler}
+use Rattle.qls_record.specs.Record.{is_enqueue}
 use Rattle.qls_enqmap.specs.declared.Held.{Held}
 use Rattle.qls_enqmap.specs.Records.{AllBelow, RidsRise}
 use Rattle.qls_txnmap.specs.Pending.{Table}
@@ -50,6 +51,15 @@ held_after Dequeue r hs = left_held (left_by_take r.what.target (xid_in r.what.x
 held_after Commit r hs = ended_held r.what.xid verdict.Commit hs
 held_after Abort r hs = ended_held r.what.xid verdict.Abort hs
 held_after Filler r hs = hs
+
+-- the held records after all these records
+abbrev pub held_after_all : List Read → List Held → List Held
+held_after_all [] hs = hs
+held_after_all (r ∷ rs) hs = held_after_all rs (held_after r.what.kind r hs)
+
+-- the held record is that of this enqueue: its id and its files are the enqueue's
+abbrev pub is_of : Held → Read → Bool
+is_of h r = is_enqueue r.what.kind && r.what.rid == h.rid && r.file == h.file && r.end_file == h.end_file
 
 -- an enqueue's id is above those that are held
 abbrev pub IsAbove : Kind → ℕ → List Held → Type 0
