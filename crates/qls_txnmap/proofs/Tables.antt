@@ -33,7 +33,7 @@ written_same k w t h = λ x. lookup-set_value nat_list_eq_equiv (same k) (same_k
 written : (k : List ℕ) (w old : List Op) (t : Table) → Some old ≡ lookup (xid_eq k) t → Changes k (Some w) t (set_value (xid_eq k) t w)
 written k w old t h =
     subst (λ f. Some old ≡ lookup (f k) t → Changes k (Some w) t (set_value (f k) t w)) (sym xid_eq_is)
-        (λ e. written_same k w t (subst (λ o. IsSome o) e refl)) h
+    (λ e. written_same k w t (subst (λ o. IsSome o) e refl)) h
 
 pub written_to : (k : List ℕ) (w old : List Op) (t u : Table) → u ≡ set_value (xid_eq k) t w → Some old ≡ lookup (xid_eq k) t → Changes k (Some w) t u
 written_to k w old t u e h = λ x. ap (λ l. lookup (same x) l) e ∙ written k w old t h x

@@ -82,10 +82,7 @@ ghost use Rattle.std.specs.Map.{keys_of};
 ghost use Rattle.qls_model.specs.Bytes.{is_listed};
 
 // The xids of the table in byte order.
-fn in_order(
-    alloc: Global,
-    table: &IndexMap<Xid, Seq<Op>>,
-) -> Result<BTreeSet<Xid>, NoMemory>
+fn in_order(alloc: Global, table: &IndexMap<Xid, Seq<Op>>) -> Result<BTreeSet<Xid>, NoMemory>
     ensures ordered { IfOk result (λ xids. IsStrictlySortedBy (slice_cmp nat_cmp) xids.keys) }
     ensures listed { IfOk result (λ xids. (x : List ℕ) → is_listed x xids.keys ≡ is_listed x (keys_of table.now.entries)) }
 {

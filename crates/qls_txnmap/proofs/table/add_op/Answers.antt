@@ -17,8 +17,8 @@ returns-in-Some-clause-added c =
     let u = (c.get_mut.follows.lender w).entries in
     let set = written_to k w old t u (c.get_mut.follows.holds w).0 c.in-Some.ensures.value in
     if_ok_then c.push.result (w ≡ old ++ op ∷ []) ((x : List ℕ) → ops_of x u ≡ ops_with k op t x)
-        (λ e. ops_added k op w t u (e ∙ ap (λ l. l ++ op ∷ []) (ap all_of (c.in-Some.ensures.value ∙ looked_up_as k t))) set)
-        c.push.ensures.pushed
+    (λ e. ops_added k op w t u (e ∙ ap (λ l. l ++ op ∷ []) (ap all_of (c.in-Some.ensures.value ∙ looked_up_as k t))) set)
+    c.push.ensures.pushed
 
 pub returns-in-Some-clause-some : goal.returns-in-Some-clause-some
 returns-in-Some-clause-some c = λ h.
@@ -30,7 +30,7 @@ returns-in-Some-clause-some c = λ h.
     let u = (c.get_mut.follows.lender w).entries in
     let set = written_to k w old t u (c.get_mut.follows.holds w).0 c.in-Some.ensures.value in
     let some = either_then c.push.result (w ≡ old ++ op ∷ []) (w ≡ old) (is_any w ≡ true)
-        (λ e. ap is_any e ∙ any_more old op) (λ e. ap is_any e ∙ h k old (sym (c.in-Some.ensures.value ∙ looked_up_as k t))) c.push.ensures.pushed c.push.ensures.refused in
+    (λ e. ap is_any e ∙ any_more old op) (λ e. ap is_any e ∙ h k old (sym (c.in-Some.ensures.value ∙ looked_up_as k t))) c.push.ensures.pushed c.push.ensures.refused in
     none_empty_added k w t u some h set
 
 pub returns-in-Some-clause-refused : goal.returns-in-Some-clause-refused
@@ -40,7 +40,7 @@ returns-in-Some-clause-refused c =
     let w = c.push.new.self in
     let old = c.in-Some.ops.now in
     if_err_then c.push.result (w ≡ old) ((c.get_mut.follows.lender w).entries ≡ t)
-        (λ e. (c.get_mut.follows.holds w).0 ∙ ap (λ v. set_value (xid_eq k) t v) e ∙ set_value_same (xid_eq k) t old (sym c.in-Some.ensures.value)) c.push.ensures.refused
+    (λ e. (c.get_mut.follows.holds w).0 ∙ ap (λ v. set_value (xid_eq k) t v) e ∙ set_value_same (xid_eq k) t old (sym c.in-Some.ensures.value)) c.push.ensures.refused
 
 pub add_first-requires : goal.add_first-requires
 add_first-requires c = record {
