@@ -87,6 +87,7 @@ AllHave d ms = AllByRecursion (λ m. m.disk ≡ d) ms
 -- the listing wasn't empty: no call came after it
 pub record StaysAsItWas (old new : Content) : Type 0 where
   pub now : new.now.disk ≡ old.now.disk
+  pub answered : new.now.answered ≡ old.now.answered
   pub since : List Moment
   pub moments : new.moments ≡ old.moments ++ since
   pub same : AllHave old.now.disk since

@@ -99,18 +99,18 @@ pub(crate) fn make_file<S: Site>(site: &mut S, id: u64, header: &FileHeader) -> 
 /// Writes a block and makes it stable.
 pub(crate) fn write_block<S: Site>(
     site: &mut S,
-    id: u64,
+    file_id: u64,
     at: u64,
     block: &[u8],
 ) -> Result<(), Fault>
-    requires range { IfSome (S.told site.old) (HasRange id at (length block.now)) }
+    requires range { IfSome (S.told site.old) (HasRange file_id at (length block.now)) }
     requires sectors { (at % 512 ≡ 0) × (length block.now % 512 ≡ 0) × (0 < length block.now) }
-    ensures told { Tells (EndsIn (λ _. WritesBlock id at block.now) (Passes Quietly) result) (S.told site.old) (S.told site.new) }
+    ensures told { Tells (EndsIn (λ _. WritesBlock file_id at block.now) (Passes Quietly) result) (S.told site.old) (S.told site.new) }
     ensures kept { S.faults site.old ≤ S.faults site.new }
     ensures cause { result ≡ Err Fault.Site → Rose (S.faults site.old) (S.faults site.new) }
     ensures only { IfErr result IsOfSite }
 {
-    site.write(id, at, block)?;
-    site.sync(id)?;
+    site.write(file_id, at, block)?;
+    site.sync(file_id)?;
     Ok(())
 }

@@ -6,5 +6,5 @@ use Rattle.qls_top.proofs.files.write_block.Goals as goal
 
 pub sync-requires : goal.sync-requires
 sync-requires g c =
-    IfSome-after (Acts (on_disk (write_at c.args.id c.args.at c.args.block.now))) (HasRange c.args.id c.args.at (length c.args.block.now)) (HasFile c.args.id) _ _
-    c.in_ok-write.ensures.told c.requires.range (HasFile-write c.args.id c.args.at c.args.block.now)
+    IfSome-after (Acts (on_disk (write_at c.args.file_id c.args.at c.args.block.now))) (HasRange c.args.file_id c.args.at (length c.args.block.now)) (HasFile c.args.file_id) _ _
+    c.in_ok-write.ensures.told c.requires.range (HasFile-write c.args.file_id c.args.at c.args.block.now)

@@ -1,0 +1,11 @@
+//! Whole runs of scripts on a site in memory: what is answered, and what lies there after a script, a fault or a crash. Tests alone.
+#![tactic(auto)]
+
+#[cfg(test)]
+mod faults;
+#[cfg(test)]
+mod outside;
+#[cfg(test)]
+mod scripts;
+#[cfg(test)]
+mod stored;

@@ -1,0 +1,155 @@
+// What scripts are answered.
+use crate::outside::{image_before_end, run_on};
+use qls_memsite::{MemSerials, MemSite, MemSource};
+use qls_model::{Bytes, NoMemory};
+use qls_top::run;
+use std::alloc::Global;
+use std::test::Fail;
+
+// Words, a script, its answers, and how many files it leaves.
+const SCRIPTS: [(&str, &str, &str, usize); 10] = [
+    ("d run 1 4", "", "", 0),
+    ("d run 1 4", "queue a\nput a 6869\n", "ok\nok 1\n", 1),
+    ("d run 1 4", "queue a\nput a -\n", "ok\nok 1\n", 1),
+    (
+        "d run 1 4",
+        "queue a\nput a 01\nput a 02\n",
+        "ok\nok 1\nrefused full\n",
+        1,
+    ),
+    (
+        "d run 1 8",
+        "queue a\nput a 01\nput a 02\n",
+        "ok\nok 1\nok 2\n",
+        1,
+    ),
+    (
+        "d run 1 4",
+        "queue a\nqueue b\nput b 01\nput a 01\n",
+        "ok\nok\nok 1\nok 1\n",
+        2,
+    ),
+    (
+        "d run 1 4",
+        "queue a\nqueue a\nput b 01\n",
+        "ok\nrefused exists\nrefused queue\n",
+        1,
+    ),
+    ("d run 1 4", "\nqueue a", "refused line\nok\n", 1),
+    ("d run 1 4", "queue a\nput a 0", "ok\nrefused line\n", 1),
+    (
+        "d run 1 4",
+        "take a 1\nlist a\nbegin 01\nqueue a 1 8\nput a 01 in 02\n",
+        "refused line\nrefused line\nrefused line\nrefused line\nrefused line\n",
+        0,
+    ),
+];
+
+#[test]
+fn scripts_are_answered_line_by_line(rt: HostRuntime) -> Result<(), Fail> {
+    let alloc = rt.alloc();
+    for (words, script, answers, files) in SCRIPTS {
+        for piece in [1, 9, 65_536] {
+            let mut site = MemSite::new(alloc);
+            let bytes = Bytes::new(alloc, script.as_bytes())?;
+            let status = run_on(alloc, words, bytes, piece, &mut site)?;
+            assert_eq!(rt; status, 0, "{words}: {script}");
+            assert_eq!(rt;
+                site.answered(),
+                answers.as_bytes(),
+                "{words}: {script}, by {piece}"
+            );
+            let image = image_before_end(&rt, alloc, &site, 0)?;
+            assert_eq!(rt; image.len(), files, "{words}: {script}");
+        }
+    }
+    Ok(())
+}
+
+// A byte many times, between two texts.
+fn long_script(
+    alloc: Global,
+    before: &str,
+    byte: u8,
+    count: usize,
+    behind: &str,
+) -> Result<Bytes, NoMemory> {
+    let mut script = Bytes::new(alloc, before.as_bytes())?;
+    script.add(&Vec::from_elem(alloc, byte, count)?)?;
+    script.add(behind.as_bytes())?;
+    Ok(script)
+}
+
+// A part of a put's line before its body.
+const PUT: &str = "queue a\nput a ";
+
+#[test]
+fn long_lines_and_scripts_have_limits(rt: HostRuntime) -> Result<(), Fail> {
+    let alloc = rt.alloc();
+    for (words, before, byte, count, behind, answers, status) in [
+        ("d run 1 2048", PUT, b'5', 2_097_152, "\n", "ok\nok 1\n", 0),
+        (
+            "d run 1 4",
+            PUT,
+            b'5',
+            2_097_152,
+            "",
+            "ok\nrefused full\n",
+            0,
+        ),
+        (
+            "d run 1 2048",
+            PUT,
+            b'5',
+            2_097_154,
+            "\n",
+            "ok\nrefused line\n",
+            0,
+        ),
+        (
+            "d run 1 4",
+            "",
+            b'x',
+            2_100_001,
+            "\nqueue a",
+            "refused line\nok\n",
+            0,
+        ),
+        ("d run 1 4", "", b'x', 67_108_864, "", "refused line\n", 0),
+        ("d run 1 4", "", b'x', 67_108_865, "", "", 7),
+    ] {
+        let mut site = MemSite::new(alloc);
+        let script = long_script(alloc, before, byte, count, behind)?;
+        let answered = run_on(alloc, words, script, 1_000_000, &mut site)?;
+        assert_eq!(rt; answered, status, "{count}");
+        assert_eq!(rt; site.answered(), answers.as_bytes(), "{count}");
+    }
+    Ok(())
+}
+
+#[test]
+fn words_without_a_job_call_nothing(rt: HostRuntime) -> Result<(), Fail> {
+    let alloc = rt.alloc();
+    for words in [
+        "d walk",
+        "d run 1 5",
+        "d run 01 4",
+        " run 1 4",
+        "d run 1 4 5",
+    ] {
+        let mut site = MemSite::new(alloc);
+        let status = run_on(alloc, words, Bytes::new(alloc, b"queue a\n")?, 9, &mut site)?;
+        assert_eq!(rt; (status, site.moment_count()), (2, 1), "{words}");
+    }
+    let mut site = MemSite::new(alloc);
+    let mut source = MemSource::new(alloc, Bytes::new(alloc, b"queue a\n")?, 9);
+    let status = run(
+        alloc,
+        &[],
+        &mut source,
+        &mut site,
+        &mut MemSerials::counting(7),
+    );
+    assert_eq!(rt; (status, site.moment_count()), (2, 1));
+    Ok(())
+}

@@ -1,0 +1,95 @@
+// What lies on the site after a put, by bytes that were written down beforehand.
+use crate::outside::{file_before_end, run_on};
+use qls_memsite::MemSite;
+use qls_model::{Bytes, Seq};
+use qls_site::{ImageFile, Place};
+use std::alloc::Global;
+use std::process::Abort;
+use std::test::Fail;
+
+// The header of queue a's file: serial 7, partition 1, 4 KiB. Zeros follow.
+const HEADER: &str =
+    "514c5366020000000700000000000000000000000000000001000000040000000010000000000000010000000000000001000000000000000100010061da017054";
+
+// Message 1 with the body 6869. Bytes ff follow.
+const MESSAGE: &str =
+    "514c53650200000007000000000000000100000000000000000000000000000002000000000000006869aeb3ac9a33029c3807000000000000000100000000000000";
+
+// A filler behind message 1. Bytes ff follow.
+const FILLER: &str = "514c53780200000007000000000000000100000000000000";
+
+// Puts the bytes at the end, and so many of another.
+fn add_padded(
+    alloc: Global,
+    bytes: &mut Bytes,
+    digits: &str,
+    padding: u8,
+    count: usize,
+) -> Result<(), Fail> {
+    bytes.add(&hex::decode(alloc, digits)?)?;
+    bytes.add(&Vec::from_elem(alloc, padding, count)?)?;
+    Ok(())
+}
+
+// The whole file of queue a with message 1.
+fn file_with_a_message(alloc: Global) -> Result<Bytes, Fail> {
+    let mut bytes = Bytes::new(alloc, b"")?;
+    add_padded(alloc, &mut bytes, HEADER, 0, 4_031)?;
+    add_padded(alloc, &mut bytes, MESSAGE, 0xff, 62)?;
+    for _ in 0..31 {
+        add_padded(alloc, &mut bytes, FILLER, 0xff, 104)?;
+    }
+    Ok(bytes)
+}
+
+// A run on a site with this file answers that there is one, and leaves it.
+fn check_refused(rt: &impl Abort, alloc: Global, file: ImageFile) -> Result<(), Fail> {
+    let (id, place, bytes) = (file.id, file.place, file.bytes.copy()?);
+    let mut files = Seq::new(alloc);
+    files.push(file)?;
+    let mut site = MemSite::from_image(alloc, files)?;
+    let script = Bytes::new(alloc, b"queue b\n")?;
+    let status = run_on(alloc, "d run 1 4", script, 9, &mut site)?;
+    assert_eq!(rt; status, 10);
+    assert_eq!(rt; site.answered(), b"".as_slice());
+    let left = file_before_end(rt, alloc, &site, 0)?;
+    assert_eq!(rt; (left.id, left.place), (id, place));
+    assert!(rt; left.bytes.as_slice() == bytes.as_slice());
+    Ok(())
+}
+
+#[test]
+fn a_put_is_stored_before_it_is_answered(rt: HostRuntime) -> Result<(), Fail> {
+    let alloc = rt.alloc();
+    let mut site = MemSite::new(alloc);
+    let script = Bytes::new(alloc, b"queue a\nput a 6869\n")?;
+    let status = run_on(alloc, "d run 1 4", script, 9, &mut site)?;
+    assert_eq!(rt; (status, site.sync_count()), (0, 2));
+    let wanted = file_with_a_message(alloc)?;
+    for (back, answers) in [(1, "ok\n"), (0, "ok\nok 1\n")] {
+        let count = site.moment_count();
+        assert!(rt; back < count);
+        let answered = site.answered_at(count - 1 - back)?;
+        assert_eq!(rt; answered.as_slice(), answers.as_bytes());
+        let file = file_before_end(&rt, alloc, &site, back)?;
+        assert_eq!(rt; (file.id, file.place), (1, Place::InUse));
+        assert!(rt; file.bytes.as_slice() == wanted.as_slice());
+    }
+    check_refused(&rt, alloc, file_before_end(&rt, alloc, &site, 0)?)
+}
+
+#[test]
+fn an_empty_file_of_a_pool_is_a_file(rt: HostRuntime) -> Result<(), Fail> {
+    let alloc = rt.alloc();
+    let bytes = Bytes::from_vec(Vec::from_elem(alloc, 0, 8_192)?);
+    let place = Place::Empty { part: 2, kib: 4 };
+    check_refused(
+        &rt,
+        alloc,
+        ImageFile {
+            id: 5,
+            place,
+            bytes,
+        },
+    )
+}
