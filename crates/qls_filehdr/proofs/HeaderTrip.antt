@@ -17,7 +17,7 @@ use Rattle.qls_filehdr.specs.declared.Rule.{Rule}
 use Rattle.qls_filehdr.specs.declared.Rule.TheVariants as rule
 use Rattle.qls_model.specs.Limits.{is_partition, is_kib}
 use Rattle.qls_filehdr.specs.Limits.{is_first_place, is_counter, is_name, is_legal_header}
-use Rattle.qls_filehdr.specs.Header.{version_of, kind_number, header_front, header_spelling, name_at, journal_kind, header_fields, header_of}
+use Rattle.qls_filehdr.specs.Header.{version_of, kind_number, header_front, header_spelling, name_at, journal_kind, header_fields, number_claims, rest_claims, header_of}
 
 -- ---- what is said of a legal header
 
@@ -31,13 +31,13 @@ pub record LegalHeader (h : FileHeader) : Type 0 where
   pub epoch : is_counter h.epoch ≡ true
   pub name : is_name h.kind h.name ≡ true
 
-less_of : (m n : ℕ) → ltb m n ≡ true → m < n
+pub less_of : (m n : ℕ) → ltb m n ≡ true → m < n
 less_of m n h = ltb→lt m n (subst T (sym h) tt)
 
-most_of : (m n : ℕ) → leb m n ≡ true → m ≤ n
+pub most_of : (m n : ℕ) → leb m n ≡ true → m ≤ n
 most_of m n h = leb→le m n (subst T (sym h) tt)
 
-legal_parts : (h : FileHeader) → is_legal_header h ≡ true → LegalHeader h
+pub legal_parts : (h : FileHeader) → is_legal_header h ≡ true → LegalHeader h
 legal_parts h e =
     let a = and_parts _ _ e in
     let b = and_parts _ _ a.0 in
@@ -48,19 +48,19 @@ legal_parts h e =
     let k = and_parts _ _ g.0 in
     record { serial = less_of h.serial (2 ^ 64) k.0; rid = k.1; part = g.1; kib = f.1; first = d.1; number = c.1; epoch = b.1; name = a.1 }
 
-part_fits : (n : ℕ) → is_partition n ≡ true → n < 2 ^ 32
+pub part_fits : (n : ℕ) → is_partition n ≡ true → n < 2 ^ 32
 part_fits n e = let l = most_of n 999 (and_parts _ _ e).1 in lt_of_le_of_lt l (lit< tt)
 
-kib_fits : (n : ℕ) → is_kib n ≡ true → n < 2 ^ 32
+pub kib_fits : (n : ℕ) → is_kib n ≡ true → n < 2 ^ 32
 kib_fits n e = let l = most_of n 65536 (and_parts _ _ (and_parts _ _ e).0).1 in lt_of_le_of_lt l (lit< tt)
 
-counter_fits : (n : ℕ) → is_counter n ≡ true → n < 2 ^ 64
-counter_fits n e = let l = less_of n (2 ^ 62) (and_parts _ _ e).1 in omega (arith, l)
+pub counter_fits : (n : ℕ) → is_counter n ≡ true → n < 2 ^ 64
+counter_fits n e = let l : n < 2 ^ 62 = less_of n (2 ^ 62) (and_parts (leb 1 n) (ltb n (2 ^ 62)) e).1 in omega (arith, l)
 
 kib_most : (n : ℕ) → is_kib n ≡ true → n ≤ 65536
 kib_most n e = most_of n 65536 (and_parts _ _ (and_parts _ _ e).0).1
 
-first_fits : (kib n : ℕ) → is_kib kib ≡ true → is_first_place kib n ≡ true → n < 2 ^ 64
+pub first_fits : (kib n : ℕ) → is_kib kib ≡ true → is_first_place kib n ≡ true → n < 2 ^ 64
 first_fits kib n k e = by (eqb n 0) (leb 4096 n) (leb (n + 128) (4096 + 1024 * kib)) refl refl e
   where
     by : (a b c : Bool) → eqb n 0 ≡ a → leb (n + 128) (4096 + 1024 * kib) ≡ c → (a || (b && c && eqb (n % 128) 0)) ≡ true → n < 2 ^ 64
@@ -69,7 +69,7 @@ first_fits kib n k e = by (eqb n 0) (leb 4096 n) (leb (n + 128) (4096 + 1024 * k
     by false true false z l e = absurd (cc)
     by false false c z l e = absurd (cc)
 
-name_fits : (kind : JournalKind) (name : List ℕ) → is_name kind name ≡ true → length name ≤ 200
+pub name_fits : (kind : JournalKind) (name : List ℕ) → is_name kind name ≡ true → length name ≤ 200
 name_fits Queue name e = most_of (length name) 200 (and_parts _ _ (and_parts _ _ e).0).1
 name_fits Listed name e = let zero_is : length name ≡ 0 = eqb→eq (length name) 0 (subst T (sym e) tt) in omega arith
 
@@ -90,9 +90,13 @@ kind_is_one Queue = refl
 kind_is_one Listed = refl
 
 -- a claim that is kept
-kept : (b : Bool) (r : Rule) (rest : Result FileHeader Rule) (h : FileHeader) → b ≡ true → rest ≡ Ok h → (claim b r >> rest) ≡ Ok h
-kept true r rest h e k = k
-kept false r rest h e k = absurd (cc)
+kept : {A : Type 0} (b : Bool) (r : Rule) (rest : Result A Rule) (x : A) → b ≡ true → rest ≡ Ok x → (claim b r >> rest) ≡ Ok x
+kept true r rest x e k = k
+kept false r rest x e k = absurd (cc)
+
+kept_last : (b : Bool) (r : Rule) → b ≡ true → claim b r ≡ Ok tt
+kept_last true r e = refl
+kept_last false r e = absurd (cc)
 
 -- ---- the bytes: sixty of fields, the name, the checksum and zeros
 
@@ -101,8 +105,8 @@ fields h =
     codes "QLSf" ++ u16 (version_of h) ++ u16 0 ++ u64 h.serial ++ u64 h.rid ++ u32 h.part ++ u32 h.kib ++ u64 h.first
     ++ u64 h.number ++ u64 h.epoch ++ u16 (kind_number h.kind) ++ u16 (length h.name)
 
-parts : (h : FileHeader) → header_spelling h ≡ fields h ++ (h.name ++ (u32 (adler_of (header_front h)) ++ replicate (4032 - length h.name) 0))
-parts h = append_assoc (fields h ++ h.name) (u32 (adler_of (header_front h))) (replicate (4032 - length h.name) 0) ∙ append_assoc (fields h) h.name (u32 (adler_of (header_front h)) ++ replicate (4032 - length h.name) 0)
+parts : (h : FileHeader) → header_spelling h ≡ fields h ++ (h.name ++ (u32 (adler_of (header_front h)) ++ replicate {A = ℕ} (4032 - length h.name) 0))
+parts h = append_assoc (fields h ++ h.name) (u32 (adler_of (header_front h))) (replicate {A = ℕ} (4032 - length h.name) 0) ∙ append_assoc (fields h) h.name (u32 (adler_of (header_front h)) ++ replicate {A = ℕ} (4032 - length h.name) 0)
 
 module _ (h : FileHeader) (legal : LegalHeader h) (more : List ℕ) where
   abbrev bytes : List ℕ
@@ -139,7 +143,7 @@ pub header_of-header_spelling : (h : FileHeader) → is_legal_header h ≡ true 
 header_of-header_spelling h e =
     let legal = legal_parts h e in
     let sum = adler_of (header_front h) in
-    let zeros = replicate (4032 - length h.name) 0 in
+    let zeros = replicate {A = ℕ} (4032 - length h.name) 0 in
     let more = u32 sum ++ zeros in
     let B : List ℕ = fields h ++ (h.name ++ more) in
     let size : from_le_bytes w16 (u16 (length h.name)) ≡ length h.name = size_is h legal more in
@@ -164,15 +168,17 @@ header_of-header_spelling h e =
     ap (λ n. list_all (λ b. eqb b 0) (drop (64 + n) (take 4096 B))) size
     ∙ ap (λ l. list_all (λ b. eqb b 0) (drop (64 + length h.name) l)) (take_all 4096 B whole)
     ∙ ap (list_all (λ b. eqb b 0)) past_sum ∙ all_zero (4032 - length h.name) in
+    let numbers : number_claims B ≡ Ok tt =
+    kept _ rule.Magic _ tt refl
+    (kept _ rule.Version _ tt refl
+    (kept _ rule.Flags _ tt refl
+    (kept _ rule.Partition _ tt (ap (λ x. is_partition x.part) back ∙ legal.part)
+    (kept _ rule.Kib _ tt (ap (λ x. is_kib x.kib) back ∙ legal.kib)
+    (kept _ rule.Place _ tt (ap (λ x. is_first_place x.kib x.first) back ∙ legal.first)
+    (kept _ rule.Counter _ tt (ap (λ x. ltb x.rid (2 ^ 62) && is_counter x.number && is_counter x.epoch) back ∙ and_from _ _ (and_from _ _ legal.rid legal.number) legal.epoch)
+    (kept_last _ rule.Kind (kind_is_one h.kind)))))))) in
+    let place : 4 + (60 + from_le_bytes w16 (u16 (length h.name))) ≡ 64 + from_le_bytes w16 (u16 (length h.name)) = omega arith in
+    let rest : rest_claims (60 + from_le_bytes w16 (u16 (length h.name))) B ≡ Ok tt = kept _ rule.Checksum _ tt checksum (kept_last _ rule.Zeros (ap (λ k. list_all (λ b. eqb b 0) (drop k (take 4096 B))) place ∙ zero_rest)) in
     ap header_of (parts h)
-    ∙ kept _ rule.Magic _ h refl
-    (kept _ rule.Version _ h refl
-    (kept _ rule.Flags _ h refl
-    (kept _ rule.Partition _ h (ap (λ x. is_partition x.part) back ∙ legal.part)
-    (kept _ rule.Kib _ h (ap (λ x. is_kib x.kib) back ∙ legal.kib)
-    (kept _ rule.Place _ h (ap (λ x. is_first_place x.kib x.first) back ∙ legal.first)
-    (kept _ rule.Counter _ h (ap (λ x. ltb x.rid (2 ^ 62) && is_counter x.number && is_counter x.epoch) back ∙ and_from _ _ (and_from _ _ legal.rid legal.number) legal.epoch)
-    (kept _ rule.Kind _ h (kind_is_one h.kind)
-    (kept _ rule.Name _ h (ap (λ x. is_name x.kind x.name) back ∙ legal.name)
-    (kept _ rule.Checksum _ h checksum
-    (kept _ rule.Zeros _ h zero_rest (ap (λ x. Ok x) back)))))))))))
+    ∙ ap (λ r. r >> (claim (is_name (header_fields B).kind (header_fields B).name) rule.Name >> (rest_claims (60 + from_le_bytes w16 (u16 (length h.name))) B >> Ok (header_fields B)))) numbers
+    ∙ kept _ rule.Name _ h (ap (λ x. is_name x.kind x.name) back ∙ legal.name) (ap (λ r. r >> Ok (header_fields B)) rest ∙ ap (λ x. Ok x) back)

@@ -22,11 +22,15 @@ abbrev pub kind_number : JournalKind → ℕ
 kind_number Queue = 1
 kind_number Listed = 2
 
+-- sixty bytes of numbers
+abbrev pub header_numbers : FileHeader → List ℕ
+header_numbers h =
+    codes "QLSf" ++ u16 (version_of h) ++ u16 0 ++ u64 h.serial ++ u64 h.rid ++ u32 h.part ++ u32 h.kib ++ u64 h.first
+    ++ u64 h.number ++ u64 h.epoch ++ u16 (kind_number h.kind) ++ u16 (length h.name)
+
 -- the bytes that the checksum covers
 abbrev pub header_front : FileHeader → List ℕ
-header_front h =
-    codes "QLSf" ++ u16 (version_of h) ++ u16 0 ++ u64 h.serial ++ u64 h.rid ++ u32 h.part ++ u32 h.kib ++ u64 h.first
-    ++ u64 h.number ++ u64 h.epoch ++ u16 (kind_number h.kind) ++ u16 (length h.name) ++ h.name
+header_front h = header_numbers h ++ h.name
 
 -- with the checksum, and zeros up to 4,096
 abbrev pub header_spelling : FileHeader → List ℕ
@@ -53,11 +57,10 @@ header_fields bytes = record {
   name = name_at bytes;
 }
 
--- the header that stands in 4,096 bytes, or the first rule that fails
-abbrev pub header_of : List ℕ → Result FileHeader Rule
-header_of bytes =
-    let h = header_fields bytes in
-    let n = number_at w16 58 bytes in do
+-- the rules on the numbers, in their order
+abbrev pub number_claims : List ℕ → Result (Unit {0}) Rule
+number_claims bytes =
+    let h = header_fields bytes in do
       claim (same (take 4 bytes) (codes "QLSf")) rule.Magic
       claim (number_at w16 4 bytes == 2) rule.Version
       claim (number_at w16 6 bytes == 0) rule.Flags
@@ -66,7 +69,18 @@ header_of bytes =
       claim (is_first_place h.kib h.first) rule.Place
       claim (nat_lt h.rid (2 ^ 62) && is_counter h.number && is_counter h.epoch) rule.Counter
       claim (nat_le 1 (number_at w16 56 bytes) && nat_le (number_at w16 56 bytes) 2) rule.Kind
+
+-- the rules on what follows the name, which ends at a place: the checksum of the bytes before it, and zeros
+abbrev pub rest_claims : ℕ → List ℕ → Result (Unit {0}) Rule
+rest_claims end bytes = do
+  claim (number_at w32 end bytes == adler_of (take end bytes)) rule.Checksum
+  claim (list_all (λ b. b == 0) (drop (4 + end) (take 4096 bytes))) rule.Zeros
+
+-- the header that stands in 4,096 bytes, or the first rule that fails
+abbrev pub header_of : List ℕ → Result FileHeader Rule
+header_of bytes =
+    let h = header_fields bytes in do
+      number_claims bytes
       claim (is_name h.kind h.name) rule.Name
-      claim (number_at w32 (60 + n) bytes == adler_of (take (60 + n) bytes)) rule.Checksum
-      claim (list_all (λ b. b == 0) (drop (64 + n) (take 4096 bytes))) rule.Zeros
+      rest_claims (60 + number_at w16 58 bytes) bytes
       Ok h

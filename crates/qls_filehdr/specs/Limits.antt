@@ -1,7 +1,6 @@
 -- The limits of headers, and the words of the rules.
 use Rattle.qls_model.specs.Limits.{is_partition, is_kib, file_size, is_queue_name}
-use Rattle.std.specs.Prelude.{ℕ, ◌+◌, ◌*◌, ◌%◌, ◌^◌, Bool, ◌&&◌, ◌||◌, List, length, ◌==◌, nat_lt, nat_le, codes}
-use Rattle.std.specs.List.{list_all}
+use Rattle.std.specs.Prelude.{ℕ, ◌+◌, ◌%◌, ◌^◌, Bool, ◌&&◌, ◌||◌, List, length, ◌==◌, nat_lt, nat_le, codes}
 use Rattle.qls_filehdr.specs.declared.JournalKind.{JournalKind}
 use Rattle.qls_filehdr.specs.declared.JournalKind.TheVariants.{Queue, List as Listed}
 use Rattle.qls_filehdr.specs.declared.FileHeader.{FileHeader}
