@@ -2,11 +2,14 @@
 use Rattle.std.proofs.Common.{◌≡◌, ℕ, ◌+◌, List, length, map, take, drop, None, refl, sym, ap, ◌∙◌, subst}
 use Rattle.qls_site.specs.declared.site.Place.{Place}
 use Rattle.qls_site.specs.declared.site.ImageFile.{ImageFile}
-use Rattle.qls_site.specs.Disk.{Disk, Image, full, file_of, listing, bytes_at, write_at, sync_at, create_at, relocate_at}
+use Rattle.qls_site.specs.Disk.{Disk, Image, full, file_of, listing, bytes_at, write_at, sync_at, create_at, relocate_at, at_rest}
 use Rattle.qls_site.specs.Content.{InFile}
 use Rattle.qls_memsite.specs.Seen.{seen_of, change_seen, with_bytes, at_place, with_seen, zeros, listed_seen, bytes_of, HasBytes, IdsRise}
-use Rattle.qls_memsite.proofs.Full.{full-write, full-sync, full-relocate, full-create, listing-full, bytes-full, range-full, lacks-full}
+use Rattle.qls_memsite.proofs.Full.{full-at_rest, full-write, full-sync, full-relocate, full-create, listing-full, bytes-full, range-full, lacks-full}
 use Rattle.qls_memsite.proofs.Seen.{rise_changed, rise_with}
+
+pub kept_begun : (i : Image) → full (at_rest i) ≡ i
+kept_begun i = full-at_rest i
 
 pub kept_listing : (d : Disk) (i : Image) → full d ≡ i → map listed_seen i ≡ listing d
 kept_listing d i kept = ap (map listed_seen) (sym kept) ∙ sym (listing-full d)

@@ -4,3 +4,7 @@ pub mod Full
 pub mod Places
 pub mod Log
 pub mod Kept
+pub mod Scenes
+pub mod Moments
+pub mod Mixes
+pub mod Sorting

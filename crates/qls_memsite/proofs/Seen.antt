@@ -10,7 +10,7 @@ use Rattle.qls_memsite.specs.Seen.{seen_of, changed_seen, change_seen, with_seen
 abbrev pub id_at : Image → ℕ → ImageFile → ℕ
 id_at i k d = (get_or i k d).id
 
-above_at : (id : ℕ) (i : Image) (k : ℕ) (d : ImageFile) → AllAbove id i → k < length i → id < id_at i k d
+pub above_at : (id : ℕ) (i : Image) (k : ℕ) (d : ImageFile) → AllAbove id i → k < length i → id < id_at i k d
 above_at id [] k d h within = absurd (omega arith)
 above_at id (f ∷ i) zero d h within = h.0
 above_at id (f ∷ i) (suc k) d h within = above_at id i k d h.1 (omega arith)
@@ -37,7 +37,7 @@ before_within (f ∷ i) id = grind (arith, nat_tests, before_within i id)
 head_Some : (f g : ImageFile) → Some f ≡ Some g → f ≡ g
 head_Some f g e = cc
 
-above_none : (id own : ℕ) (i : Image) → AllAbove own i → id ≤ own → seen_of id i ≡ None
+pub above_none : (id own : ℕ) (i : Image) → AllAbove own i → id ≤ own → seen_of id i ≡ None
 above_none id own [] h le = refl
 above_none id own (f ∷ i) h le = grind (arith, nat_tests, h.0, above_none id own i h.1 le)
 

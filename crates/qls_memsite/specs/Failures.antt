@@ -1,5 +1,5 @@
 -- Which calls are set to fail.
-use Rattle.std.specs.Prelude.{◌≡◌, ℕ, ◌+◌, ◌-◌, ◌^◌, Bool, false, true, ◌&&◌, ◌||◌, List, map, min, Option, Some, None, if◌then◌else◌, ◌==◌}
+use Rattle.std.specs.Prelude.{ℕ, ◌+◌, ◌-◌, ◌^◌, Bool, false, ◌&&◌, ◌||◌, List, [], ◌∷◌, ◌++◌, map, min, Option, Some, None, if◌then◌else◌, ◌==◌}
 use Rattle.std.specs.List.{list_any}
 use Rattle.qls_memsite.specs.declared.plan.CallKind.{CallKind}
 use Rattle.qls_memsite.specs.declared.plan.CallKind.TheVariants as kind
@@ -54,3 +54,20 @@ after_call call p = record { failures = map (counted call) p.failures; stop = on
 -- the count of faults after a call that failed or not; at its greatest value it stays
 abbrev pub faults_after : Bool → ℕ → ℕ
 faults_after failed faults = if failed then min (faults + 1) (2 ^ 64 - 1) else faults
+
+-- no call is set to fail
+abbrev pub none_failing : Failing
+none_failing = record { failures = []; stop = None }
+
+-- the n-th call of that kind from now is set to fail too; the 0-th is none
+abbrev pub with_failure : CallKind → ℕ → Failing → Failing
+with_failure call n p = record p { failures = p.failures ++ (record { kind = call; left = n }) ∷ [] }
+
+-- the stop that comes first
+abbrev pub earlier : Option ℕ → ℕ → Option ℕ
+earlier None passing = Some passing
+earlier (Some other) passing = Some (min other passing)
+
+-- the k-th call from now and all later ones are set to fail too; the 0-th is none
+abbrev pub with_stop : ℕ → Failing → Failing
+with_stop k p = if k == 0 then p else record p { stop = earlier p.stop (k - 1) }

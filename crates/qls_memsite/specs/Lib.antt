@@ -5,3 +5,4 @@ pub mod Counting
 pub mod Serials
 pub mod Sources
 pub mod Memory
+pub mod Scenes

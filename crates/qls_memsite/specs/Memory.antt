@@ -1,12 +1,13 @@
 -- A site in memory as clauses see it: what it tells, its counts, and which calls are set to fail.
-use Rattle.std.specs.Prelude.{◌≡◌, ℕ, Bool, true, false, Option, Some, Result, Ok, Err}
+use Rattle.std.specs.Prelude.{◌≡◌, ℕ, Bool, true, false, Option, Some, Result, Ok, Err, slice_get}
 use Rattle.qls_site.specs.declared.site.SiteError.{SiteError}
 use Rattle.qls_site.specs.declared.site.SiteError.TheVariants.{Failed, Memory}
-use Rattle.qls_site.specs.Content.{Content}
+use Rattle.qls_site.specs.Disk.{Image}
+use Rattle.qls_site.specs.Content.{Moment, Content}
 use Rattle.qls_memsite.specs.declared.plan.CallKind.{CallKind}
 use Rattle.qls_memsite.specs.declared.memory.MemSite.{MemSite}
 use Rattle.qls_memsite.specs.Log.{begun, content_after}
-use Rattle.qls_memsite.specs.Failures.{Failing, failing_of, fails_next, after_call, faults_after}
+use Rattle.qls_memsite.specs.Failures.{Failing, failing_of, none_failing, fails_next, after_call, faults_after}
 
 abbrev pub content_of : MemSite → Content
 content_of m = content_after m.calls.items (begun m.start)
@@ -42,3 +43,22 @@ abbrev pub FailsAsSet : {X : Type 0} → CallKind → MemSite → MemSite → Re
 FailsAsSet call old new (Ok x) = IsCounted call false old new
 FailsAsSet call old new (Err Failed) = IsCounted call true old new
 FailsAsSet call old new (Err Memory) = IsUncounted old new
+
+-- the moment of that number, counted from 0
+abbrev pub moment_at : ℕ → MemSite → Option Moment
+moment_at k m = slice_get (content_of m).moments k
+
+-- all but the failures that are set is as it was
+pub record OnlySets (old new : MemSite) : Type 0 where
+  pub content : content_of new ≡ content_of old
+  pub faults : faults_of new ≡ faults_of old
+  pub syncs : syncs_of new ≡ syncs_of old
+  pub reads : reads_of new ≡ reads_of old
+
+-- the site begins on these files, with no failure set and every count 0
+pub record BeginsOn (files : Image) (m : MemSite) : Type 0 where
+  pub content : content_of m ≡ begun files
+  pub failing : set_to_fail m ≡ none_failing
+  pub faults : faults_of m ≡ 0
+  pub syncs : syncs_of m ≡ 0
+  pub reads : reads_of m ≡ 0

@@ -71,3 +71,13 @@ pub record StandsAt (i : Image) (id k : ℕ) : Type 0 where
   pub within : k < length i
   pub own : (d : ImageFile) → (get_or i k d).id ≡ id
   pub seen : (d : ImageFile) → seen_of id i ≡ Some (get_or i k d)
+
+-- no two files have the same id
+abbrev pub IdsDiffer : Image → Type 0
+IdsDiffer [] = Unit {0}
+IdsDiffer (f ∷ i) = (seen_of f.id i ≡ None) × IdsDiffer i
+
+-- the files in the order of their ids
+abbrev pub by_id : Image → Image
+by_id [] = []
+by_id (f ∷ i) = with_seen f (by_id i)

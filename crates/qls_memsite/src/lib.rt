@@ -4,8 +4,11 @@
 mod call;
 mod calls;
 mod files;
+mod images;
 mod memory;
+mod past;
 mod plan;
+mod scene;
 mod serials;
 mod source;
 

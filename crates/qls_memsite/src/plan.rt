@@ -1,9 +1,9 @@
 // Which calls are set to fail.
-ghost use Rattle.std.specs.Prelude.{◌≡◌, ◌≤◌, ◌||◌, map};
+ghost use Rattle.std.specs.Prelude.{◌≡◌, ◌≤◌, ◌||◌, map, Some};
 ghost use Rattle.std.specs.List.{list_any};
 ghost use Rattle.std.specs.Bool.{OnTrue};
 ghost use Rattle.qls_site.specs.Content.{Rose};
-ghost use Rattle.qls_memsite.specs.Failures.{number_of, counts, is_due, counted, is_stopped, one_less, failing_of, fails_next, after_call, faults_after};
+ghost use Rattle.qls_memsite.specs.Failures.{number_of, counts, is_due, counted, is_stopped, one_less, earlier, with_stop, failing_of, fails_next, after_call, faults_after};
 
 /// A kind of call on a site.
 #[derive(Clone, Copy, Debug, PartialEq, Eq)]
@@ -104,7 +104,26 @@ fn stops(stop: &mut Option<u64>) -> bool
     }
 }
 
+// How many calls pass before the stop that comes first.
+fn first_of(stop: Option<u64>, passing: u64) -> u64
+    ensures { Some result ≡ earlier stop passing }
+{
+    match stop {
+        None => passing,
+        Some(other) => other.min(passing),
+    }
+}
+
 impl Plan {
+    /// Sets the k-th call from now and all later ones to fail; 0 sets none.
+    pub fn stop_at(&mut self, k: u64)
+        ensures { failing_of self.new ≡ with_stop k (failing_of self.old) }
+    {
+        if k > 0 {
+            self.stop = Some(first_of(self.stop, k - 1));
+        }
+    }
+
     // Whether this call is set to fail; it is counted.
     pub fn next(&mut self, call: CallKind) -> bool
         ensures fails { result ≡ fails_next call (failing_of self.old) }
