@@ -44,6 +44,12 @@ FailsAsSet call old new (Ok x) = IsCounted call false old new
 FailsAsSet call old new (Err Failed) = IsCounted call true old new
 FailsAsSet call old new (Err Memory) = IsUncounted old new
 
+-- after a failed call its own disk and answered bytes are as before
+abbrev pub StaysIfFailed : {X : Type 0} → MemSite → MemSite → Result X SiteError → Type 0
+StaysIfFailed old new (Ok x) = Unit {0}
+StaysIfFailed old new (Err Failed) = (content_of new).now ≡ (content_of old).now
+StaysIfFailed old new (Err Memory) = Unit {0}
+
 -- the moment of that number, counted from 0
 abbrev pub moment_at : ℕ → MemSite → Option Moment
 moment_at k m = slice_get (content_of m).moments k

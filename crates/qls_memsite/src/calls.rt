@@ -3,7 +3,7 @@ ghost use Rattle.std.specs.Prelude.{◌≡◌, ◌%◌, ◌<◌, length, IfSome}
 ghost use Rattle.qls_site.specs.Disk.{write_at, sync_at, create_at, relocate_at};
 ghost use Rattle.qls_site.specs.Content.{Tells, Leads, Acts, Stays, MayAct, on_disk, on_answered, HasFile, HasRange, LacksFile, IsRead, IsListed, Causes, CountsOne};
 ghost use Rattle.qls_memsite.specs.declared.plan.CallKind.TheVariants as kind;
-ghost use Rattle.qls_memsite.specs.Memory.{told_of, faults_of, syncs_of, reads_of, FailsAsSet};
+ghost use Rattle.qls_memsite.specs.Memory.{told_of, faults_of, syncs_of, reads_of, FailsAsSet, StaysIfFailed};
 
 use crate::call::Call;
 use crate::files;
@@ -114,6 +114,7 @@ impl Site for MemSite {
         ensures syncs { syncs_of self.new ≡ syncs_of self.old }
         ensures reads { reads_of self.new ≡ reads_of self.old }
         ensures as_set { FailsAsSet kind.Create self.old self.new result }
+        ensures stays { StaysIfFailed self.old self.new result }
     {
         let file = files::file_of_zeros(self.alloc, id, part, kib)?;
         self.calls.reserve(1)?;
@@ -145,6 +146,7 @@ impl Site for MemSite {
         ensures syncs { syncs_of self.new ≡ syncs_of self.old }
         ensures reads { reads_of self.new ≡ reads_of self.old }
         ensures as_set { FailsAsSet kind.Relocate self.old self.new result }
+        ensures stays { StaysIfFailed self.old self.new result }
     {
         self.calls.reserve(1)?;
         if fails(&mut self.plan, CallKind::Relocate, &mut self.faults) {
@@ -171,6 +173,7 @@ impl Site for MemSite {
         ensures syncs { syncs_of self.new ≡ syncs_of self.old }
         ensures reads { reads_of self.new ≡ reads_of self.old }
         ensures as_set { FailsAsSet kind.Answer self.old self.new result }
+        ensures stays { StaysIfFailed self.old self.new result }
     {
         let copy = Bytes::new(self.alloc, bytes)?;
         self.calls.reserve(1)?;

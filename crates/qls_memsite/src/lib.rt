@@ -16,3 +16,6 @@ pub use memory::MemSite;
 pub use plan::CallKind;
 pub use serials::MemSerials;
 pub use source::MemSource;
+
+#[cfg(test)]
+mod tests;
