@@ -1,0 +1,5 @@
+pub mod Rising
+pub mod Writes
+pub mod Ends
+pub mod Kept
+pub mod Counted

@@ -1,0 +1,35 @@
+use Rattle.std.proofs.Common.{◌≡◌, ◌<◌, ◌≤◌, ◌++◌, ◌∷◌, [], ap, sym, subst, ◌∙◌, refl, arith, length}
+use Rattle.qls_enqmap.specs.Records.{AllBelow, RidsRise}
+use Rattle.qls_enqmap.specs.Slots.{held_in}
+use Rattle.qls_enqmap.proofs.Kept.{rids_rise, rids_below, kept_more, held_append, few}
+use Rattle.qls_enqmap.proofs.map.EnqMap.insert.Goals as goal
+
+pub put_last-requires : goal.put_last-requires
+put_last-requires c = record {
+  above = rids_below 0 c.args.held.rid c.self.inside.slots.entries c.self.invariant.rises c.self.invariant.last
+      (subst (λ hs. AllBelow c.args.held.rid hs) (sym c.self.view_is) c.requires.above);
+}
+
+pub overflow_add-self : goal.overflow_add-self
+overflow_add-self c = omega (arith, few c.self.inside.slots.entries, c.self.invariant.counted, c.still_rising-rising.ensures.small)
+
+pub invariant_of-self-2 : goal.invariant_of-self-2
+invariant_of-self-2 c =
+    kept_more c.self.inside.slots.entries c.put_last.new.slots.entries c.args.held c.self.inside.count c.self.inside.start c.self.inside.rising c.still_rising-rising.result
+        c.self.invariant
+        (rids_below 0 c.args.held.rid c.self.inside.slots.entries c.self.invariant.rises c.self.invariant.last (subst (λ hs. AllBelow c.args.held.rid hs) (sym c.self.view_is) c.requires.above))
+        c.in_ok-put_last.ensures.put (λ t. c.still_rising-rising.ensures.rising t c.args.held refl)
+
+pub returns-clause-inserted : goal.returns-clause-inserted
+returns-clause-inserted c =
+    ap held_in c.in_ok-put_last.ensures.put ∙ held_append c.self.inside.slots.entries c.args.held ∙ ap (λ hs. hs ++ c.args.held ∷ []) c.self.view_is
+
+pub returns-clause-rising : goal.returns-clause-rising
+returns-clause-rising c =
+    rids_rise 0 c.put_last.new.slots.entries (kept_more c.self.inside.slots.entries c.put_last.new.slots.entries c.args.held c.self.inside.count c.self.inside.start c.self.inside.rising c.still_rising-rising.result
+        c.self.invariant
+        (rids_below 0 c.args.held.rid c.self.inside.slots.entries c.self.invariant.rises c.self.invariant.last (subst (λ hs. AllBelow c.args.held.rid hs) (sym c.self.view_is) c.requires.above))
+        c.in_ok-put_last.ensures.put (λ t. c.still_rising-rising.ensures.rising t c.args.held refl)).rises
+
+pub returns-in_err-put_last-clause-rising : goal.returns-in_err-put_last-clause-rising
+returns-in_err-put_last-clause-rising c = subst (λ es. RidsRise (held_in es)) (sym c.in_err-put_last.ensures.refused) (rids_rise 0 c.self.inside.slots.entries c.self.invariant.rises)

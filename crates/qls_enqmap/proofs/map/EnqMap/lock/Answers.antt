@@ -1,0 +1,21 @@
+use Rattle.std.proofs.Common.{◌≡◌, ap, sym, subst, ◌∙◌, length}
+use Rattle.qls_model.specs.declared.machine.Status.TheVariants.{Ready, Going}
+use Rattle.qls_enqmap.specs.Records.{with_status, RidsRise}
+use Rattle.qls_enqmap.specs.Slots.{held_in, FilesRise}
+use Rattle.qls_enqmap.proofs.Kept.{rids_rise, kept_status, same_count, files_set}
+use Rattle.qls_enqmap.proofs.map.EnqMap.lock.Goals as goal
+
+pub invariant_of-self : goal.invariant_of-self
+invariant_of-self c =
+    let es = c.self.inside.slots.entries in
+    let us = c.set_status.new.slots.entries in
+    let s = (Going c.args.xid) in
+    kept_status es us c.self.inside.count c.self.inside.start c.self.inside.rising c.self.invariant c.set_status.ensures.rises c.set_status.ensures.occupied c.set_status.ensures.long
+        (same_count c.args.rid s es us c.self.inside.count c.self.invariant.counted c.set_status.ensures.set)
+        (files_set c.args.rid s es us c.set_status.ensures.set)
+
+pub returns-then-is_ok-clause-rising : goal.returns-then-is_ok-clause-rising
+returns-then-is_ok-clause-rising c = rids_rise 0 c.set_status.new.slots.entries c.set_status.ensures.rises
+
+pub returns-else-is_ok-clause-rising : goal.returns-else-is_ok-clause-rising
+returns-else-is_ok-clause-rising c = subst (λ hs. RidsRise hs) c.self.view_is (rids_rise 0 c.self.inside.slots.entries c.self.invariant.rises)
