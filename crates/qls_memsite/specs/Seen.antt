@@ -7,6 +7,7 @@ use Rattle.qls_site.specs.declared.site.Place.TheVariants.{Empty}
 use Rattle.qls_site.specs.declared.site.FileAt.{FileAt}
 use Rattle.qls_site.specs.declared.site.ImageFile.{ImageFile}
 use Rattle.qls_site.specs.Disk.{Image, Write, written}
+pub use Rattle.qls_site.specs.Disk.{AllAbove, IdsRise}
 
 abbrev pub seen_of : ℕ → Image → Option ImageFile
 seen_of id i = find (λ f. f.id == id) i
@@ -39,15 +40,6 @@ listed_seen f = record { id = f.id; place = f.place; size = length f.bytes }
 abbrev pub before : ℕ → Image → ℕ
 before id [] = 0
 before id (f ∷ i) = if nat_lt f.id id then suc (before id i) else 0
-
--- each id is less than those of all later files
-abbrev pub AllAbove : ℕ → Image → Type 0
-AllAbove id [] = Unit {0}
-AllAbove id (f ∷ i) = (id < f.id) × AllAbove id i
-
-abbrev pub IdsRise : Image → Type 0
-IdsRise [] = Unit {0}
-IdsRise (f ∷ i) = AllAbove f.id i × IdsRise i
 
 AllAbove-prop : (id : ℕ) (i : Image) → IsProp (AllAbove id i)
 AllAbove-prop id [] = Unit-prop

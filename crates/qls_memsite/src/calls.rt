@@ -1,6 +1,6 @@
 // The calls on a site in memory.
 ghost use Rattle.std.specs.Prelude.{◌≡◌, ◌%◌, ◌<◌, length, IfSome};
-ghost use Rattle.qls_site.specs.Disk.{write_at, sync_at, create_at, relocate_at};
+ghost use Rattle.qls_site.specs.Disk.{IdsRise, full, write_at, sync_at, create_at, relocate_at};
 ghost use Rattle.qls_site.specs.Content.{Tells, Leads, Acts, Stays, MayAct, on_disk, on_answered, HasFile, HasRange, LacksFile, IsRead, IsListed, Causes, CountsOne};
 ghost use Rattle.qls_memsite.specs.declared.plan.CallKind.TheVariants as kind;
 ghost use Rattle.qls_memsite.specs.Memory.{told_of, faults_of, syncs_of, reads_of, FailsAsSet, StaysIfFailed};
@@ -25,6 +25,7 @@ impl Site for MemSite {
     #[tactic(auto, using(crate::proofs::Log::one_more, crate::proofs::Kept::kept_listing))]
     fn list(&mut self, alloc: Global) -> Result<Seq<FileAt>, SiteError>
         ensures listed { IsListed (told_of self.old) result }
+        ensures rising { IfSome (told_of self.old) (λ c. IdsRise (full c.now.disk)) }
         ensures told { Tells (Leads Stays Stays result) (told_of self.old) (told_of self.new) }
         ensures cause { Causes (faults_of self.old) (faults_of self.new) result }
         ensures syncs { syncs_of self.new ≡ syncs_of self.old }

@@ -1,0 +1,4 @@
+pub mod Lists
+pub mod Listings
+pub mod HeadLaws
+pub mod HeadSteps
