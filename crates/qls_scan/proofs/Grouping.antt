@@ -100,7 +100,7 @@ module _ (P : Headed → Type 0) where
     | false ↦ (h.0, all_with f fs p h.1)
   ]
 
-  all_by_number : (fs : List Headed) → AllByRecursion P fs → AllByRecursion P (by_number fs)
+  pub all_by_number : (fs : List Headed) → AllByRecursion P fs → AllByRecursion P (by_number fs)
   all_by_number [] h = tt
   all_by_number (f ∷ fs) h = all_with f (by_number fs) h.0 (all_by_number fs h.1)
 
@@ -215,7 +215,7 @@ list_of test (f ∷ fs) = elim (test f) as (λ b.
 abbrev pub HasItsName : Headed → Type 0
 HasItsName f = f.header.kind ≡ Listed → f.header.name ≡ []
 
-any_list : (fs : List Headed) → AllByRecursion HasItsName fs → list_any (is_of Listed []) fs ≡ list_any (λ f. not (is_queue f.header.kind)) fs
+pub any_list : (fs : List Headed) → AllByRecursion HasItsName fs → list_any (is_of Listed []) fs ≡ list_any (λ f. not (is_queue f.header.kind)) fs
 any_list [] h = refl
 any_list (f ∷ fs) h = λ k. one f.header.kind refl k || any_list fs h.1 k
   where

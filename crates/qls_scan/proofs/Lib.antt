@@ -4,3 +4,6 @@ pub mod HeadLaws
 pub mod HeadSteps
 pub mod Names
 pub mod Grouping
+pub mod Blank
+pub mod Whole
+pub mod Sound

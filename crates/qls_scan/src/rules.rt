@@ -4,15 +4,26 @@ ghost use Rattle.std.specs.List.{filter};
 ghost use Rattle.qls_shape.specs.Claims.{each};
 ghost use Rattle.qls_meaning.specs.Journals.{is_in_use};
 ghost use Rattle.qls_meaning.specs.Damage.{is_pool, next_claims, chain_claims};
-ghost use Rattle.qls_scan.specs.Listed.{listed_id_claim, listed_pool_claim, ListedRise};
+ghost use Rattle.qls_scan.specs.Listed.{listed_id_claim, listed_pool_claim, listed_claims, ListedRise};
 ghost use Rattle.qls_scan.specs.Found.{with_no_area};
 
 use crate::answers::{Damage, HeadedFile, JournalFiles};
 use qls_filehdr::Rule;
 use qls_site::{FileAt, Place};
 
+// Tests the rules that a listing shows: `id` on each file, and then `pool` on each empty file.
+pub fn check_files(files: &[FileAt]) -> Result<(), Damage>
+    ensures rules { ListedRise files.now → result ≡ listed_claims files.now }
+    ensures kept { OnOk result (listed_claims files.now ≡ Ok tt) }
+    ensures rising { OnOk result (ListedRise files.now) }
+{
+    check_ids(files)?;
+    check_order(files)?;
+    check_pools(files)
+}
+
 // Tests the rule `id` on each file: an id is at least 1 and below 2^62.
-pub fn check_ids(files: &[FileAt]) -> Result<(), Damage>
+fn check_ids(files: &[FileAt]) -> Result<(), Damage>
     ensures exact { result ≡ each listed_id_claim files.now }
 {
     for file in files {
@@ -25,7 +36,7 @@ pub fn check_ids(files: &[FileAt]) -> Result<(), Damage>
 
 // Tests that no id comes twice, and that they rise. A site that tells its files lists them so; where one that doesn't
 // tell them lists an id again, that is the rule `id`.
-pub fn check_order(files: &[FileAt]) -> Result<(), Damage>
+fn check_order(files: &[FileAt]) -> Result<(), Damage>
     requires ids { each listed_id_claim files.now ≡ Ok tt }
     ensures rising { OnOk result (ListedRise files.now) }
     ensures where_rising { ListedRise files.now → result ≡ Ok tt }
@@ -41,7 +52,7 @@ pub fn check_order(files: &[FileAt]) -> Result<(), Damage>
 }
 
 // Tests the rule `pool` on each empty file.
-pub fn check_pools(files: &[FileAt]) -> Result<(), Damage>
+fn check_pools(files: &[FileAt]) -> Result<(), Damage>
     ensures exact { result ≡ each listed_pool_claim (filter (λ f. not (is_in_use f.place)) files.now) }
 {
     for file in files {

@@ -10,7 +10,7 @@ ghost use Rattle.qls_scan.specs.Found.{IsFound, IsFirstDamage, IsSound, HasCause
 use crate::answers::{Found, ScanFault};
 use crate::groups::group;
 use crate::heads::read_heads;
-use crate::rules::{check_chains, check_ids, check_order, check_pools};
+use crate::rules::{check_chains, check_files};
 use qls_model::{NoMemory, Seq};
 use qls_site::{FileAt, Place, Site};
 use std::alloc::Global;
@@ -35,9 +35,7 @@ pub fn scan<S: Site>(alloc: Global, site: &mut S) -> Result<Found, ScanFault>
 {
     let listed = site.list(alloc)?;
     let files = listed.as_slice();
-    check_ids(files)?;
-    check_order(files)?;
-    check_pools(files)?;
+    check_files(files)?;
     let heads = read_heads(alloc, site, files)?;
     let journals = group(alloc, heads)?;
     check_chains(journals.as_slice())?;
