@@ -29,7 +29,7 @@ with_numbered-blank : (f : Headed) (fs : List Headed) → with_numbered (blank f
 with_numbered-blank f [] = refl
 with_numbered-blank f (g ∷ fs) =
     elim (ltb f.header.number g.header.number || (eqb f.header.number g.header.number && ltb f.id g.id)) as (λ b.
-      cond b (blank f ∷ blank g ∷ map blank fs) (blank g ∷ with_numbered (blank f) (map blank fs)) ≡ map blank (cond b (f ∷ g ∷ fs) (g ∷ with_numbered f fs))) [
+    cond b (blank f ∷ blank g ∷ map blank fs) (blank g ∷ with_numbered (blank f) (map blank fs)) ≡ map blank (cond b (f ∷ g ∷ fs) (g ∷ with_numbered f fs))) [
       | true ↦ refl
       | false ↦ ap (λ (r : List Headed). blank g ∷ r) (with_numbered-blank f fs)
     ]

@@ -34,18 +34,18 @@ within-insert [] k m = refl
 within-insert (e ∷ es) k m = elim (order k e.0) as (λ o.
     within (match_ordering o ((k, m) ∷ e ∷ es) ((e.0, m) ∷ es) (e ∷ insert_entry order es k m))
     ≡ match_ordering o ((k, m.entries) ∷ entries_within e ∷ within es) ((e.0, m.entries) ∷ within es) (entries_within e ∷ insert_entry order (within es) k m.entries)) [
-  | Less ↦ refl
-  | Equal ↦ refl
-  | Greater ↦ ap (λ r. entries_within e ∷ r) (within-insert es k m)
-]
+      | Less ↦ refl
+      | Equal ↦ refl
+      | Greater ↦ ap (λ r. entries_within e ∷ r) (within-insert es k m)
+    ]
 
 pub within-set : (test : List ℕ → Bool) (es : Maps) (m : BTreeMap (ℕ × ℕ) HeadedFile) → within (set_value test es m) ≡ set_value test (within es) m.entries
 within-set test [] m = refl
 within-set test (e ∷ es) m = elim (test e.0) as (λ b.
     within (cond b ((e.0, m) ∷ es) (e ∷ set_value test es m)) ≡ cond b ((e.0, m.entries) ∷ within es) (entries_within e ∷ set_value test (within es) m.entries)) [
-  | true ↦ refl
-  | false ↦ ap (λ r. entries_within e ∷ r) (within-set test es m)
-]
+      | true ↦ refl
+      | false ↦ ap (λ r. entries_within e ∷ r) (within-set test es m)
+    ]
 
 abbrev pub entries_in : BTreeMap (ℕ × ℕ) HeadedFile → Entries
 entries_in m = m.entries
@@ -54,9 +54,9 @@ pub within-lookup : (test : List ℕ → Bool) (es : Maps) → lookup test (with
 within-lookup test [] = refl
 within-lookup test (e ∷ es) = elim (test e.0) as (λ b.
     cond b (Some e.1.entries) (lookup test (within es)) ≡ option_map (λ (m : BTreeMap (ℕ × ℕ) HeadedFile). m.entries) (cond b (Some e.1) (lookup test es))) [
-  | true ↦ refl
-  | false ↦ within-lookup test es
-]
+      | true ↦ refl
+      | false ↦ within-lookup test es
+    ]
 
 -- ---- one group
 
@@ -79,8 +79,8 @@ keyed_with f (g ∷ fs) h =
     ap (λ o. match_ordering o (keyed f ∷ keyed g ∷ map keyed fs) (((number_key (head_of g)), head_of f) ∷ map keyed fs) (keyed g ∷ with_file (head_of f) (map keyed fs)))
     (key_order f.header.number g.header.number f.id g.id (λ e. h.0 (sym e)))
     ∙ elim (ltb f.header.number g.header.number || (eqb f.header.number g.header.number && ltb f.id g.id)) as (λ b.
-        match_ordering (cond b Less Greater) (keyed f ∷ keyed g ∷ map keyed fs) (((number_key (head_of g)), head_of f) ∷ map keyed fs) (keyed g ∷ with_file (head_of f) (map keyed fs))
-        ≡ map keyed (cond b (f ∷ g ∷ fs) (g ∷ with_numbered f fs))) [
+    match_ordering (cond b Less Greater) (keyed f ∷ keyed g ∷ map keyed fs) (((number_key (head_of g)), head_of f) ∷ map keyed fs) (keyed g ∷ with_file (head_of f) (map keyed fs))
+    ≡ map keyed (cond b (f ∷ g ∷ fs) (g ∷ with_numbered f fs))) [
       | true ↦ refl
       | false ↦ ap (λ r. keyed g ∷ r) (keyed_with f fs h.1)
     ]
@@ -207,9 +207,9 @@ list_of : (test : Headed → Bool) (fs : List Headed) → list_found (map head_o
 list_of test [] = refl
 list_of test (f ∷ fs) = elim (test f) as (λ b.
     list_found (map head_of (by_number (cond b (f ∷ filter test fs) (filter test fs)))) ≡ map files_of (list_by (b || list_any test fs) (cond b (f ∷ filter test fs) (filter test fs)))) [
-  | true ↦ list_with f (by_number (filter test fs))
-  | false ↦ list_of test fs
-]
+      | true ↦ list_with f (by_number (filter test fs))
+      | false ↦ list_of test fs
+    ]
 
 -- a list's file has no name
 abbrev pub HasItsName : Headed → Type 0
@@ -239,10 +239,6 @@ groups_are g fs named so =
 no_bytes : (name : List ℕ) → eqb (length name) 0 ≡ true → name ≡ []
 no_bytes [] e = refl
 no_bytes (b ∷ name) e = absurd (grind (arith, nat_tests, e))
-
-
-
-
 
 named_as : (kind : JournalKind) (name : List ℕ) → is_name kind name ≡ true → kind ≡ Listed → name ≡ []
 named_as Queue name e k = absurd (cc)

@@ -16,11 +16,13 @@ use Rattle.qls_meaning.specs.Damage.{Checked, is_pool, chain_claims}
 use Rattle.qls_scan.specs.declared.answers.Found.{Found}
 use Rattle.qls_scan.specs.declared.answers.HeadedFile.{HeadedFile}
 use Rattle.qls_scan.specs.declared.answers.JournalFiles.{JournalFiles}
-use Rattle.qls_scan.specs.Found.{head_of, with_no_area, files_of, greatest, IsFileOf, IsInOrder, IsSound}
+use Rattle.qls_scan.specs.Found.{head_of, with_no_area, files_of, greatest, IsFileOf, IsInOrder, goes_before, JournalsRise, IsSound}
 use Rattle.qls_scan.specs.Listed.{listed_id_claim, listed_pool_claim, listed_claims, ListedAbove, ListedRise}
 use Rattle.qls_scan.specs.Heads.{HasLegalHeader}
 use Rattle.qls_scan.specs.Groups.{LacksId, IdsDiffer}
-use Rattle.qls_scan.proofs.Names.{names_are}
+use Rattle.std.specs.declared.cmp.Ordering.TheVariants.{Less}
+use Rattle.std.specs.Ordering.{is_lt}
+use Rattle.qls_scan.proofs.Names.{order, NamesRise, names_are, names_rise}
 use Rattle.qls_scan.proofs.Grouping.{HasItsName, any_list, lists_named, all_group, all_by_number}
 use Rattle.qls_scan.proofs.Whole.{both_kept}
 
@@ -194,6 +196,30 @@ legal_heads : (hs : List HeadedFile) → AllByRecursion HasLegalHeader hs → Al
 legal_heads [] h = tt
 legal_heads (f ∷ hs) h = (h.0, legal_heads hs h.1)
 
+-- ---- the order of journals
+
+module _ (fs : List Headed) where
+  abbrev queues_named : List (List ℕ) → List JournalFiles
+  queues_named ns = map files_of (map (journal fs Queue) ns)
+
+  later_queues : (n : List ℕ) (ns : List (List ℕ)) → AllByRecursion (λ x. order n x ≡ Less) ns → AllByRecursion (λ k. goes_before (files_of (journal fs Queue n)) k ≡ true) (queues_named ns)
+  later_queues n [] h = tt
+  later_queues n (m ∷ ns) h = (ap is_lt h.0, later_queues n ns h.1)
+
+  queues_rise : (ns : List (List ℕ)) → NamesRise ns → JournalsRise (queues_named ns)
+  queues_rise [] h = tt
+  queues_rise (n ∷ ns) h = (later_queues n ns h.0, queues_rise ns h.1)
+
+  behind_list : (ns : List (List ℕ)) → AllByRecursion (λ k. goes_before (files_of (journal fs Listed [])) k ≡ true) (queues_named ns)
+  behind_list [] = tt
+  behind_list (n ∷ ns) = (refl, behind_list ns)
+
+  journals_rise : JournalsRise (map files_of (journals fs))
+  journals_rise = elim (list_any (λ f. not (is_queue f.header.kind)) fs) as (λ b. JournalsRise (map files_of (cond b (journal fs Listed [] ∷ []) [] ++ map (journal fs Queue) (queue_names fs)))) [
+    | true ↦ (behind_list (queue_names fs), queues_rise (queue_names fs) (names_rise fs))
+    | false ↦ queues_rise (queue_names fs) (names_rise fs)
+  ]
+
 -- ---- the whole
 
 pub all_sound : (files empty : List FileAt) (heads : List HeadedFile) (found : List JournalFiles) → listed_claims files ≡ Ok tt → AllByRecursion HasLegalHeader heads
@@ -203,6 +229,7 @@ all_sound files empty heads found kept legal grouped chain none =
     let own = both_kept (each listed_id_claim files) (each listed_pool_claim (filter (λ f. not (is_in_use f.place)) files)) kept in
     let js = journals (map with_no_area heads) in
     record {
+      rise = subst JournalsRise (sym grouped) (journals_rise (map with_no_area heads));
       journals = subst (AllByRecursion IsInOrder) (sym grouped)
           (in_order js (wells (map with_no_area heads) (legal_heads heads legal) (lists_named heads legal)) (ap (each (λ j. chain_claims (map with_no_area j.files))) (sym grouped) ∙ chain));
       empties = subst (AllByRecursion (λ f. is_pool f.size f.place ≡ true)) (sym none) (all_pools (filter (λ f. not (is_in_use f.place)) files) own.1);

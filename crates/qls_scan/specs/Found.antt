@@ -1,12 +1,15 @@
 -- What a scan finds, and what it answers where a rule fails.
-use Rattle.std.specs.Prelude.{◌≡◌, ℕ, ◌≤◌, ◌<◌, ◌^◌, true, max, List, [], ◌∷◌, map, length, Result, Ok, Err, IsTrue}
+use Rattle.std.specs.Prelude.{◌≡◌, ℕ, ◌≤◌, ◌<◌, ◌^◌, Bool, true, false, max, List, [], ◌∷◌, map, length, Result, Ok, Err, IsTrue}
 use Rattle.std.specs.List.{AllByRecursion}
+use Rattle.qls_model.specs.Bytes.{comes_before}
 use Rattle.qls_site.specs.declared.site.SiteError.{SiteError}
 use Rattle.qls_site.specs.declared.site.SiteError.TheVariants as site
 use Rattle.qls_site.specs.declared.site.FileAt.{FileAt}
 use Rattle.qls_site.specs.declared.site.ImageFile.{ImageFile}
 use Rattle.qls_site.specs.Disk.{Image}
 use Rattle.qls_site.specs.Content.{Rose}
+use Rattle.qls_filehdr.specs.declared.JournalKind.{JournalKind}
+use Rattle.qls_filehdr.specs.declared.JournalKind.TheVariants.{Queue, List as Listed}
 use Rattle.qls_filehdr.specs.Limits.{is_legal_header}
 use Rattle.qls_meaning.specs.Journals.{Headed, Journal, empties, journals_of}
 use Rattle.qls_meaning.specs.Damage.{scanned, is_pool, chain_claims}
@@ -73,8 +76,24 @@ pub record IsInOrder (j : JournalFiles) : Type 0 where
   pub own : AllByRecursion (IsFileOf j) j.files
   pub chain : chain_claims (map with_no_area j.files) ≡ Ok tt
 
--- each journal is in order, each empty file is of a pool within the limits, and the greatest id is below 2 ^ 62
+-- the prepared list goes before every queue, and a queue before those whose names come later in byte order
+abbrev pub kind_before : JournalKind → JournalKind → List ℕ → List ℕ → Bool
+kind_before Queue Queue m n = comes_before m n
+kind_before Queue Listed m n = false
+kind_before Listed Queue m n = true
+kind_before Listed Listed m n = false
+
+abbrev pub goes_before : JournalFiles → JournalFiles → Bool
+goes_before j k = kind_before j.kind k.kind j.name k.name
+
+-- each journal goes before all later ones
+abbrev pub JournalsRise : List JournalFiles → Type 0
+JournalsRise [] = Unit {0}
+JournalsRise (j ∷ js) = AllByRecursion (λ k. goes_before j k ≡ true) js × JournalsRise js
+
+-- the journals rise and each is in order, each empty file is of a pool within the limits, and the greatest id is below 2 ^ 62
 pub record IsSound (found : Found) : Type 0 where
+  pub rise : JournalsRise found.journals
   pub journals : AllByRecursion IsInOrder found.journals
   pub empties : AllByRecursion (λ f. is_pool f.size f.place ≡ true) found.empties
   pub greatest : found.greatest < 2 ^ 62

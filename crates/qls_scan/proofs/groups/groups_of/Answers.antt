@@ -12,11 +12,10 @@ loop-file-preserved c =
     let file = c.in-Some.file in
     let left = c.pop.new.self in
     let done = c.loop-file.invariant.0 in
-    let split = c.loop-file.invariant.1 ∙ ap (λ hs. hs ++ done) c.in-Some.ensures.last ∙ append_assoc left (file ∷ []) done in
-    (
+    let split = c.loop-file.invariant.1 ∙ ap (λ hs. hs ++ done) c.in-Some.ensures.last ∙ append_assoc left (file ∷ []) done in (
       file ∷ done,
       split,
       c.in_ok-add.ensures.added (map with_no_area done) c.loop-file.invariant.2
-      (differ_behind left file done (subst (λ hs. IdsDiffer (map with_no_area hs)) split c.requires.differ))
-      (legal_at left file done (subst (λ hs. AllByRecursion HasLegalHeader hs) split c.requires.legal)),
+          (differ_behind left file done (subst (λ hs. IdsDiffer (map with_no_area hs)) split c.requires.differ))
+          (legal_at left file done (subst (λ hs. AllByRecursion HasLegalHeader hs) split c.requires.legal)),
     )

@@ -4,7 +4,7 @@ use Rattle.qls_meaning.specs.Damage.{chain_claims}
 use Rattle.qls_scan.specs.declared.answers.Found.{Found}
 use Rattle.qls_scan.specs.declared.answers.ScanFault.{ScanFault}
 use Rattle.qls_site.specs.Disk.{full}
-use Rattle.qls_site.specs.Content.{OnlyLooks}
+use Rattle.qls_site.specs.Content.{Tells, OnlyLooks}
 use Rattle.qls_site.proofs.Told.{Tells-weaken, Tells-then, OnlyLooks-call, OnlyLooks-then}
 use Rattle.qls_scan.specs.declared.answers.ScanFault.TheVariants.{Damaged}
 use Rattle.qls_scan.specs.Found.{with_no_area, IsFound, IsFirstDamage, IsSound}
@@ -30,7 +30,7 @@ returns-in_err-heads-clause-damage g c =
     let told = g.S.Site.told c.args.site.now in
     let files = c.as_slice-files.result.now in
     let fault = c.in_err-heads.field-0.0 in
-    let looked = Tells-weaken _ OnlyLooks _ _ c.list.ensures.told (OnlyLooks-call _) in
+    let looked : Tells OnlyLooks told (g.S.Site.told c.list.new.self) = Tells-weaken _ OnlyLooks _ _ c.list.ensures.told (OnlyLooks-call _) in
     let answer : Result Found ScanFault = Err (fault) in
     let is : answer ≡ c.from_residual-in_err-heads.result = search (rules, c.from_residual-in_err-heads.ensures) in
     subst (λ r. IfSome told (λ k. IsFirstDamage (full k.now.disk) r)) is
@@ -51,7 +51,7 @@ returns-in_err-check_chains-clause-damage g c =
     let told = g.S.Site.told c.args.site.now in
     let files = c.as_slice-files.result.now in
     let x = c.in_err-check_chains.field-0.0 in
-    let looked = Tells-weaken _ OnlyLooks _ _ c.list.ensures.told (OnlyLooks-call _) in
+    let looked : Tells OnlyLooks told (g.S.Site.told c.list.new.self) = Tells-weaken _ OnlyLooks _ _ c.list.ensures.told (OnlyLooks-call _) in
     let answer : Result Found ScanFault = Err (Damaged x.0 x.1) in
     let is : answer ≡ c.from_residual-in_err-check_chains.result = search (rules, c.from_residual-in_err-check_chains.ensures) in
     subst (λ r. IfSome told (λ k. IsFirstDamage (full k.now.disk) r)) is
@@ -72,12 +72,13 @@ returns-clause-found g c =
     let files = c.as_slice-files.result.now in
     let found = c.in_ok-journals.journals in
     let empty = c.in_ok-empties_of.field-0 in
-    let looked = Tells-weaken _ OnlyLooks _ _ c.list.ensures.told (OnlyLooks-call _) in
+    let looked : Tells OnlyLooks told (g.S.Site.told c.list.new.self) = Tells-weaken _ OnlyLooks _ _ c.list.ensures.told (OnlyLooks-call _) in
+    let kept : each (λ j. chain_claims (map with_no_area j.files)) found ≡ Ok tt = ap (each (λ j. chain_claims (map with_no_area j.files))) (sym c.as_slice.ensures.same) ∙ sym c.in_ok-check_chains.ensures.exact in
     subst (λ n. IfSome told (λ k. IsFound (full k.now.disk) (record { greatest = n; empties = empty; journals = found }))) (sym c.greatest_id.ensures.exact)
     (all_found files c.in_ok-check_files.ensures.kept c.in_ok-heads.heads found c.in_ok-journals.ensures.grouped told empty
     (listing_told told c.in_ok-listed.listed files c.in_ok-listed.ensures.listed c.list.ensures.rising c.as_slice-files.ensures.same)
     (heads_back told (g.S.Site.told c.list.new.self) (Ok c.in_ok-heads.heads) looked c.in_ok-heads.ensures.read)
-    (ap (each (λ j. chain_claims (map with_no_area j.files))) (sym c.as_slice.ensures.same) ∙ sym c.in_ok-check_chains.ensures.exact)
+    kept
     c.in_ok-empties_of.ensures.exact)
 
 pub returns-clause-sound : goal.returns-clause-sound
@@ -85,9 +86,10 @@ returns-clause-sound g c =
     let files = c.as_slice-files.result.now in
     let found = c.in_ok-journals.journals in
     let empty = c.in_ok-empties_of.field-0 in
+    let kept : each (λ j. chain_claims (map with_no_area j.files)) found ≡ Ok tt = ap (each (λ j. chain_claims (map with_no_area j.files))) (sym c.as_slice.ensures.same) ∙ sym c.in_ok-check_chains.ensures.exact in
     subst (λ n. IsSound (record { greatest = n; empties = empty; journals = found })) (sym c.greatest_id.ensures.exact)
     (all_sound files empty c.in_ok-heads.heads found c.in_ok-check_files.ensures.kept c.in_ok-heads.ensures.legal c.in_ok-journals.ensures.grouped
-    (ap (each (λ j. chain_claims (map with_no_area j.files))) (sym c.as_slice.ensures.same) ∙ sym c.in_ok-check_chains.ensures.exact)
+    kept
     c.in_ok-empties_of.ensures.exact)
 
 pub returns-clause-told : goal.returns-clause-told
