@@ -1,0 +1,9 @@
+pub mod Lists
+pub mod Listings
+pub mod HeadLaws
+pub mod HeadSteps
+pub mod Names
+pub mod Grouping
+pub mod Blank
+pub mod Whole
+pub mod Sound
