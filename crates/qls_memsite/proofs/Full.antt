@@ -1,5 +1,5 @@
 -- What a reader sees of the disk after each call.
-use Rattle.std.proofs.Common.{◌≡◌, ℕ, ◌+◌, ◌≤◌, Bool, true, false, cond, List, [], ◌∷◌, ◌++◌, length, map, eqb, ltb, Option, Some, None, option_map, IsSome, refl, sym, ap, ◌∙◌, subst, arith}
+use Rattle.std.proofs.Common.{◌≡◌, ℕ, true, false, cond, List, [], ◌∷◌, ◌++◌, map, eqb, ltb, Option, Some, None, option_map, refl, sym, ap, ◌∙◌, subst}
 use Rattle.qls_site.specs.declared.site.Place.{Place}
 use Rattle.qls_site.specs.declared.site.ImageFile.{ImageFile}
 use Rattle.qls_site.specs.Disk.{Disk, Image, FileState, Write, full, full_file, file_of, changed, change_file, write_at, sync_at, relocate_at, create_at, with_file, written, all_written, listing, listed, bytes_at, seen_bytes, at_rest}

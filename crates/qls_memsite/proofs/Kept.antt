@@ -1,7 +1,6 @@
 -- The files as a reader sees them, kept beside the log.
-use Rattle.std.proofs.Common.{◌≡◌, ℕ, ◌+◌, List, length, map, take, drop, None, refl, sym, ap, ◌∙◌, subst}
+use Rattle.std.proofs.Common.{◌≡◌, ℕ, List, map, None, refl, sym, ap, ◌∙◌, subst}
 use Rattle.qls_site.specs.declared.site.Place.{Place}
-use Rattle.qls_site.specs.declared.site.ImageFile.{ImageFile}
 use Rattle.qls_site.specs.Disk.{Disk, Image, full, file_of, listing, bytes_at, write_at, sync_at, create_at, relocate_at, at_rest}
 use Rattle.qls_site.specs.Content.{InFile}
 use Rattle.qls_memsite.specs.Seen.{seen_of, change_seen, with_bytes, at_place, with_seen, zeros, listed_seen, bytes_of, HasBytes, IdsRise}

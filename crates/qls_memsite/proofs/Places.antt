@@ -1,11 +1,11 @@
 -- Where a file stands, as a search finds it.
-use Rattle.std.proofs.Common.{◌≡◌, ◌≢◌, ℕ, suc, ◌+◌, ◌<◌, ◌≤◌, List, [], ◌∷◌, length, get_or, set, Option, Some, None, refl, sym, ap, ◌∙◌, subst, arith}
+use Rattle.std.proofs.Common.{◌≡◌, ◌≢◌, ℕ, ◌+◌, ◌<◌, ◌≤◌, [], ◌∷◌, length, get_or, set, Some, None, refl, sym, ap, ◌∙◌, subst, arith}
 use Rattle.std.proofs.lemmas.List.{get_or_default}
 use Rattle.std.proofs.lemmas.Bool.Decides.{nat_tests}
 use Rattle.qls_site.specs.declared.site.ImageFile.{ImageFile}
 use Rattle.qls_site.specs.declared.site.Place.TheVariants.{InUse}
 use Rattle.qls_site.specs.Disk.{Image}
-use Rattle.qls_memsite.specs.Seen.{seen_of, changed_seen, change_seen, before, AllAbove, IdsRise, StandsAt}
+use Rattle.qls_memsite.specs.Seen.{seen_of, change_seen, before, IdsRise, StandsAt}
 use Rattle.qls_memsite.proofs.Seen.{id_at, below_place, at_place_or_behind, seen_at, seen_none, changed_at}
 
 own_id : (i : Image) (k : ℕ) (v d : ImageFile) → k < length i → v ≡ get_or i k v → id_at i k d ≡ v.id

@@ -1,5 +1,5 @@
 -- Files of a scene, changed one by one, and a new one at its place.
-use Rattle.std.proofs.Common.{◌≡◌, ℕ, zero, suc, ◌+◌, ◌<◌, ◌≤◌, Bool, true, false, cond, List, [], ◌∷◌, ◌++◌, length, map, take, drop, get_or, set, ltb, refl, sym, ap, ◌∙◌, subst, arith}
+use Rattle.std.proofs.Common.{◌≡◌, ℕ, zero, suc, ◌+◌, ◌<◌, ◌≤◌, true, false, cond, List, [], ◌∷◌, length, get_or, set, ltb, refl, ap, ◌∙◌, arith}
 use Rattle.std.specs.List.{insert}
 use Rattle.qls_site.specs.Disk.{FileState, Disk, with_file}
 use Rattle.qls_memsite.specs.declared.scene.SceneFile.{SceneFile}

@@ -1,8 +1,8 @@
 -- What a site in memory tells: the content that its log of calls leads to.
-use Rattle.std.specs.Prelude.{◌≡◌, ℕ, Bool, false, List, [], ◌∷◌, ◌++◌, if◌then◌else◌}
+use Rattle.std.specs.Prelude.{Bool, false, List, [], ◌∷◌, ◌++◌, if◌then◌else◌}
 use Rattle.qls_memsite.specs.declared.call.Call.{Call}
 use Rattle.qls_memsite.specs.declared.call.Call.TheVariants as call
-use Rattle.qls_site.specs.Disk.{Disk, Image, at_rest, write_at, sync_at, create_at, relocate_at}
+use Rattle.qls_site.specs.Disk.{Image, at_rest, write_at, sync_at, create_at, relocate_at}
 use Rattle.qls_site.specs.Content.{Moment, Content, on_disk, on_answered}
 
 -- nothing has happened on the files at rest

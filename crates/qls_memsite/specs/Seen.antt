@@ -6,7 +6,7 @@ use Rattle.qls_site.specs.declared.site.Place.{Place}
 use Rattle.qls_site.specs.declared.site.Place.TheVariants.{Empty}
 use Rattle.qls_site.specs.declared.site.FileAt.{FileAt}
 use Rattle.qls_site.specs.declared.site.ImageFile.{ImageFile}
-use Rattle.qls_site.specs.Disk.{Image, Write, written}
+use Rattle.qls_site.specs.Disk.{Image, written}
 
 abbrev pub seen_of : ℕ → Image → Option ImageFile
 seen_of id i = find (λ f. f.id == id) i

@@ -2,7 +2,7 @@
 use Rattle.std.proofs.Common.{◌≡◌, ◌⊎◌, ℕ, zero, suc, ◌+◌, ◌-◌, ◌*◌, ◌/◌, ◌%◌, ◌<◌, ◌≤◌, Bool, true, false, cond, List, [], ◌∷◌, ◌++◌, length, take, drop, refl, sym, ap, ◌∙◌, subst, inl, inr, ⊎_elim, arith, append_assoc, length-append, length-take, length-drop}
 use Rattle.std.proofs.lemmas.List.{take-append-le, drop-append-le, take-append-drop, drop-drop, drop_at, take_at}
 use Rattle.std.proofs.lemmas.Bool.{cases_lt}
-use Rattle.qls_site.specs.Disk.{Disk, Write, FileState, Torn, TornInTurn, IsImageFile, IsImage, written, sector, LieWithin, WritesLieWithin}
+use Rattle.qls_site.specs.Disk.{Disk, Write, Torn, TornInTurn, IsImage, sector, LieWithin, WritesLieWithin}
 use Rattle.qls_site.specs.Chosen.{first_choice, sectors, mixed, chosen, all_chosen, all_sectors, chosen_image, AreSectors, WritesAreSectors}
 
 -- a sector behind a front of whole sectors, and one inside a front
