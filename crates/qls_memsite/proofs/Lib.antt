@@ -8,3 +8,4 @@ pub mod Scenes
 pub mod Moments
 pub mod Mixes
 pub mod Sorting
+pub mod Whole

@@ -6,3 +6,4 @@ pub mod Serials
 pub mod Sources
 pub mod Memory
 pub mod Scenes
+pub mod Whole

@@ -128,8 +128,8 @@ all_torn : (cs : List Bool) (ws : List Write) (old : List ℕ) → AreSectors ws
 all_torn cs [] old whole within = refl
 all_torn cs (w ∷ ws) old whole within = (
   chosen cs w old,
-  torn_chosen cs w old whole.0 whole.1 within.0,
-  all_torn (drop (sectors w) cs) ws (chosen cs w old) whole.2 (subst (λ n. LieWithin n ws) (sym (chosen_size cs w old whole.1 within.0)) within.1),
+  torn_chosen cs w old whole.0.0 whole.0.1 within.0,
+  all_torn (drop (sectors w) cs) ws (chosen cs w old) whole.1 (subst (λ n. LieWithin n ws) (sym (chosen_size cs w old whole.0.1 within.0)) within.1),
 )
 
 pub IsImage-chosen : (cs : List Bool) (d : Disk) → WritesLieWithin d → WritesAreSectors d → IsImage d (chosen_image cs d)
