@@ -1,11 +1,12 @@
 -- Each call keeps pending writes within their files, in whole sectors.
-use Rattle.std.proofs.Common.{◌≡◌, ℕ, zero, suc, ◌+◌, ◌*◌, ◌%◌, ◌<◌, ◌≤◌, Bool, true, false, cond, List, [], ◌∷◌, ◌++◌, length, map, replicate, eqb, ltb, Option, Some, None, slice_get, refl, sym, ap, ◌∙◌, subst, arith}
+use Rattle.std.proofs.Common.{◌≡◌, ℕ, zero, suc, ◌+◌, ◌*◌, ◌%◌, ◌<◌, ◌≤◌, Bool, true, false, cond, List, [], ◌∷◌, ◌++◌, length, map, replicate, eqb, ltb, Option, Some, None, slice_get, IfSome, refl, sym, ap, ◌∙◌, subst, arith}
 use Rattle.std.proofs.lemmas.Bool.Decides.{nat_tests}
 use Rattle.qls_site.specs.declared.site.Place.{Place}
-use Rattle.qls_site.specs.Disk.{Disk, Image, FileState, Write, full, full_file, file_of, changed, change_file, write_at, sync_at, relocate_at, create_at, with_file, all_written, at_rest, at_rest_file, LieWithin, WritesLieWithin}
-use Rattle.qls_site.specs.Chosen.{AreSectors, WritesAreSectors}
+use Rattle.qls_site.specs.Disk.{Disk, Image, IsImage, FileState, Write, full, full_file, file_of, changed, change_file, write_at, sync_at, relocate_at, create_at, with_file, all_written, at_rest, at_rest_file, LieWithin, WritesLieWithin}
+use Rattle.qls_site.specs.Chosen.{AreSectors, WritesAreSectors, chosen_image}
 use Rattle.qls_site.specs.Content.{Moment, Content, InFile, HasRange}
 use Rattle.qls_site.proofs.DiskLaws.{length-all_written}
+use Rattle.qls_site.proofs.ChosenLaws.{IsImage-chosen}
 use Rattle.qls_memsite.specs.declared.call.Call.{Call}
 use Rattle.qls_memsite.specs.declared.call.Call.TheVariants as call
 use Rattle.qls_memsite.specs.Seen.{AllAbove, IdsRise}
@@ -45,11 +46,11 @@ whole_write id at bytes [] rise range a l h = (tt, tt)
 whole_write id at bytes (f ∷ d) rise range a l h =
     elim (eqb f.id id) as (λ b. eqb f.id id ≡ b → InFile at (length bytes) (cond b (Some f) (file_of id d)) → IsWhole (cond b (record f { pending = f.pending ++ (record { at = at; bytes = bytes }) ∷ [] }) f ∷ write_at id at bytes d)) [
       | true ↦ λ e r.
-        let own = first_of f d h in
-        let here : id ≤ f.id = grind (arith, nat_tests, e) in
-        joined (record f { pending = f.pending ++ (record { at = at; bytes = bytes }) ∷ [] }) (write_at id at bytes d)
-        (within_more (length f.stable) f.pending (record { at = at; bytes = bytes }) own.0 (omega (arith, r, length-all_written f.pending f.stable own.0)), sectors_more f.pending (record { at = at; bytes = bytes }) own.1 a l)
-        (subst IsWhole (sym (same_above id f.id (λ g. record g { pending = g.pending ++ (record { at = at; bytes = bytes }) ∷ [] }) d rise.0 here)) (rest_of f d h))
+          let own = first_of f d h in
+          let here : id ≤ f.id = grind (arith, nat_tests, e) in
+          joined (record f { pending = f.pending ++ (record { at = at; bytes = bytes }) ∷ [] }) (write_at id at bytes d)
+          (within_more (length f.stable) f.pending (record { at = at; bytes = bytes }) own.0 (omega (arith, r, length-all_written f.pending f.stable own.0)), sectors_more f.pending (record { at = at; bytes = bytes }) own.1 a l)
+          (subst IsWhole (sym (same_above id f.id (λ g. record g { pending = g.pending ++ (record { at = at; bytes = bytes }) ∷ [] }) d rise.0 here)) (rest_of f d h))
       | false ↦ λ e r. joined f (write_at id at bytes d) (first_of f d h) (whole_write id at bytes d rise.1 r a l (rest_of f d h))
     ] refl range
 
@@ -124,3 +125,11 @@ whole_at (n ∷ ms) zero m h e = subst (λ (x : Moment). IsWhole x.disk) (same n
     same : (n m : Moment) → Some n ≡ Some m → n ≡ m
     same n m e = cc
 whole_at (n ∷ ms) (suc k) m h e = whole_at ms k m h.1 e
+
+pub whole_moment : (c : Content) (k : ℕ) (m : Moment) → AreWhole c → slice_get c.moments k ≡ Some m → IsWhole m.disk
+whole_moment c k m h e = whole_at c.moments k m h.1 e
+
+-- the image of a moment is one that a crash may leave
+pub image_left : (o : Option Moment) (m : Moment) (cs : List Bool) (files : Image) → o ≡ Some m → IsWhole m.disk → files ≡ chosen_image cs m.disk → IfSome o (λ m. IsImage m.disk files)
+image_left o m cs files e whole is =
+    subst (λ o. IfSome o (λ (m : Moment). IsImage m.disk files)) (sym e) (subst (IsImage m.disk) (sym is) (IsImage-chosen cs m.disk whole.0 whole.1))

@@ -22,7 +22,7 @@ impl Site for MemSite {
 
     ghost reads = { reads_of };
 
-    #[tactic(auto, using(crate::proofs::Log::one_more, crate::proofs::Kept::kept_listing))]
+    #[tactic(auto, using(crate::proofs::Log::one_more, crate::proofs::Kept::kept_listing, crate::proofs::Whole::more_look))]
     fn list(&mut self, alloc: Global) -> Result<Seq<FileAt>, SiteError>
         ensures listed { IsListed (told_of self.old) result }
         ensures told { Tells (Leads Stays Stays result) (told_of self.old) (told_of self.new) }
@@ -41,7 +41,7 @@ impl Site for MemSite {
         Ok(listed)
     }
 
-    #[tactic(auto, using(crate::proofs::Log::one_more, crate::proofs::Kept::kept_range, crate::proofs::Kept::kept_bytes))]
+    #[tactic(auto, using(crate::proofs::Log::one_more, crate::proofs::Kept::kept_range, crate::proofs::Kept::kept_bytes, crate::proofs::Whole::more_look))]
     fn read(&mut self, id: u64, at: u64, into: &mut [u8]) -> Result<(), SiteError>
         requires { IfSome (told_of self.old) (HasRange id at (length into.old)) }
         ensures read { IsRead (told_of self.old) id at (length into.old) into.new result }
@@ -62,7 +62,7 @@ impl Site for MemSite {
         Ok(())
     }
 
-    #[tactic(auto, using(crate::proofs::Log::one_more, crate::proofs::Kept::kept_range, crate::proofs::Kept::kept_write, crate::proofs::Kept::rise_write))]
+    #[tactic(auto, using(crate::proofs::Log::one_more, crate::proofs::Kept::kept_range, crate::proofs::Kept::kept_write, crate::proofs::Kept::rise_write, crate::proofs::Whole::more_write))]
     fn write(&mut self, id: u64, at: u64, bytes: &[u8]) -> Result<(), SiteError>
         requires range { IfSome (told_of self.old) (HasRange id at (length bytes.now)) }
         requires sectors { (at % 512 ≡ 0) × (length bytes.now % 512 ≡ 0) × (0 < length bytes.now) }
@@ -87,7 +87,7 @@ impl Site for MemSite {
         Ok(())
     }
 
-    #[tactic(auto, using(crate::proofs::Log::one_more, crate::proofs::Kept::kept_sync))]
+    #[tactic(auto, using(crate::proofs::Log::one_more, crate::proofs::Kept::kept_sync, crate::proofs::Whole::more_look, crate::proofs::Whole::more_sync))]
     fn sync(&mut self, id: u64) -> Result<(), SiteError>
         requires { IfSome (told_of self.old) (HasFile id) }
         ensures told { Tells (Leads (Acts (on_disk (sync_at id))) Stays result) (told_of self.old) (told_of self.new) }
@@ -106,7 +106,7 @@ impl Site for MemSite {
         Ok(())
     }
 
-    #[tactic(auto, using(crate::proofs::Log::one_more, crate::proofs::Kept::kept_lack, crate::proofs::Kept::kept_create, crate::proofs::Kept::rise_create))]
+    #[tactic(auto, using(crate::proofs::Log::one_more, crate::proofs::Kept::kept_lack, crate::proofs::Kept::kept_create, crate::proofs::Kept::rise_create, crate::proofs::Whole::more_create))]
     fn create(&mut self, id: u64, part: u16, kib: u32) -> Result<(), SiteError>
         requires { IfSome (told_of self.old) (LacksFile id) }
         ensures told { Tells (Leads (Acts (on_disk (create_at id part kib))) (MayAct (on_disk (create_at id part kib))) result) (told_of self.old) (told_of self.new) }
@@ -138,7 +138,7 @@ impl Site for MemSite {
         Ok(())
     }
 
-    #[tactic(auto, using(crate::proofs::Log::one_more, crate::proofs::Kept::kept_relocate, crate::proofs::Kept::rise_relocate))]
+    #[tactic(auto, using(crate::proofs::Log::one_more, crate::proofs::Kept::kept_relocate, crate::proofs::Kept::rise_relocate, crate::proofs::Whole::more_relocate))]
     fn relocate(&mut self, id: u64, to: Place) -> Result<(), SiteError>
         requires { IfSome (told_of self.old) (HasFile id) }
         ensures told { Tells (Leads (Acts (on_disk (relocate_at id to))) (MayAct (on_disk (relocate_at id to))) result) (told_of self.old) (told_of self.new) }
@@ -166,7 +166,7 @@ impl Site for MemSite {
         Ok(())
     }
 
-    #[tactic(auto, using(crate::proofs::Log::one_more))]
+    #[tactic(auto, using(crate::proofs::Log::one_more, crate::proofs::Whole::more_answer))]
     fn answer(&mut self, bytes: &[u8]) -> Result<(), SiteError>
         ensures told { Tells (Leads (Acts (on_answered bytes.now)) (MayAct (on_answered bytes.now)) result) (told_of self.old) (told_of self.new) }
         ensures cause { Causes (faults_of self.old) (faults_of self.new) result }

@@ -3,13 +3,15 @@ ghost use Rattle.std.specs.Prelude.{◌≡◌, ◌≤◌, length, OnOk, IfOk};
 ghost use Rattle.qls_site.specs.Disk.{full};
 ghost use Rattle.qls_memsite.specs.Seen.{IdsRise, IdsRise-prop, IdsDiffer, by_id};
 ghost use Rattle.qls_memsite.specs.Log.{begun, content_after};
+ghost use Rattle.qls_memsite.specs.Whole.{AreWhole, AreWhole-prop};
 
 use crate::call::Call;
 use crate::plan::{CallKind, Failure, Plan};
+use crate::scene::Scene;
 use crate::{images, past};
 use qls_model::{Bytes, NoMemory, Seq};
 use qls_site::ImageFile;
-use std::alloc::Global;
+use std::alloc::{AllocError, Global};
 
 /// A site in memory, which tells all its moments.
 ///
@@ -28,6 +30,7 @@ pub struct MemSite {
     ghost seen: { full (content_after calls.items (begun start)).now.disk ≡ files.items },
     ghost answers: { (content_after calls.items (begun start)).now.answered ≡ answered.items },
     ghost order: { IdsRise files.items } by { IdsRise-prop files.items },
+    ghost whole: { AreWhole (content_after calls.items (begun start)) } by { AreWhole-prop (content_after calls.items (begun start)) },
     ghost few_syncs: { syncs ≤ length calls.items },
     ghost few_reads: { reads ≤ length calls.items },
 }
@@ -57,10 +60,13 @@ fn sort(files: &mut Vec<ImageFile>) -> Result<(), NoMemory>
 }
 
 impl MemSite {
-    ghost use Rattle.std.specs.Prelude.{◌<◌, [], Some, slice_get, IfOk, IfErr};
+    ghost use Rattle.std.specs.Prelude.{◌<◌, [], Some, slice_get, IfOk, IfErr, IfSome};
     ghost use Rattle.std.specs.Option.{option_map};
+    ghost use Rattle.qls_site.specs.Disk.{IsImage};
     ghost use Rattle.qls_site.specs.Chosen.{chosen_image};
     ghost use Rattle.qls_memsite.specs.Failures.{with_failure, with_stop};
+    ghost use Rattle.qls_memsite.specs.Scenes.{moment_of};
+    ghost use Rattle.qls_memsite.specs.Whole.{IsWhole};
     ghost use Rattle.qls_memsite.specs.Memory.{content_of, set_to_fail, faults_of, syncs_of, reads_of, moment_at, OnlySets, BeginsOn};
 
     /// An empty site on which no call is set to fail. Every count is 0.
@@ -85,7 +91,7 @@ impl MemSite {
 
     /// A site that begins on these files, sorted by id, with nothing pending. No two have the same id. No call is set
     /// to fail, and every count is 0.
-    #[tactic(auto, using(crate::proofs::Kept::kept_begun, crate::proofs::Sorting::rise_by_id))]
+    #[tactic(auto, using(crate::proofs::Kept::kept_begun, crate::proofs::Sorting::rise_by_id, crate::proofs::Whole::whole_begun))]
     pub fn from_image(alloc: Global, files: Seq<ImageFile>) -> Result<MemSite, NoMemory>
         requires { IdsDiffer files }
         ensures begins { IfOk result (BeginsOn (by_id files)) }
@@ -146,14 +152,25 @@ impl MemSite {
         self.syncs
     }
 
+    // What was there at a moment.
+    #[tactic(auto, using(crate::proofs::Whole::whole_moment))]
+    fn scene(&self, moment: usize) -> Result<Scene, AllocError>
+        requires { moment < length (content_of self.now).moments }
+        ensures moment { IfOk result (λ scene. moment_at moment self.now ≡ Some (moment_of scene)) }
+        ensures whole { IfOk result (λ scene. IsWhole (moment_of scene).disk) }
+    {
+        past::scene_at(self.alloc, self.start.as_slice(), &self.calls, moment)
+    }
+
     /// What a crash leaves at a moment, counted from 0: the n-th sector of the pending writes is there where the n-th
     /// choice is true. They are counted by rising file id, then from the oldest write on, then by place; a missing
     /// choice is false.
     pub fn image(&self, moment: usize, choice: &Seq<bool>) -> Result<Seq<ImageFile>, NoMemory>
         requires { moment < length (content_of self.now).moments }
         ensures image { IfOk result (λ files. Some files ≡ option_map (λ m. chosen_image choice.now m.disk) (moment_at moment self.now)) }
+        ensures left { IfOk result (λ files. IfSome (moment_at moment self.now) (λ m. IsImage m.disk files)) }
     {
-        let scene = past::scene_at(self.alloc, self.start.as_slice(), &self.calls, moment)?;
+        let scene = self.scene(moment)?;
         let files = images::image(self.alloc, scene.files, choice.as_slice())?;
         Ok(files)
     }
@@ -170,7 +187,7 @@ impl MemSite {
         requires { moment < length (content_of self.now).moments }
         ensures answered { IfOk result (λ bytes. Some bytes ≡ option_map (λ m. m.answered) (moment_at moment self.now)) }
     {
-        let scene = past::scene_at(self.alloc, self.start.as_slice(), &self.calls, moment)?;
+        let scene = self.scene(moment)?;
         Ok(Bytes::from_vec(scene.answered))
     }
 }

@@ -192,3 +192,21 @@ fn serials_count_and_wrap(rt: HostRuntime) {
         assert_eq!(rt; serials.draw(), wanted);
     }
 }
+
+#[test]
+fn errors_have_texts(rt: HostRuntime) -> Result<(), Fail> {
+    let alloc = rt.alloc();
+    let texts = [
+        format!(in alloc; "{}", SiteError::Failed)?,
+        format!(in alloc; "{}", SiteError::Memory)?,
+        format!(in alloc; "{}", SourceError::Failed)?,
+        format!(in alloc; "{}", DrawError::Failed)?,
+    ];
+    for (text, wanted) in texts
+        .iter()
+        .zip(["failed", "want of memory", "failed", "failed"])
+    {
+        assert_eq!(rt; text.as_str(), wanted);
+    }
+    Ok(())
+}
