@@ -1,0 +1,11 @@
+pub mod Lists
+pub mod Seen
+pub mod Full
+pub mod Places
+pub mod Log
+pub mod Kept
+pub mod Scenes
+pub mod Moments
+pub mod Mixes
+pub mod Sorting
+pub mod Whole
