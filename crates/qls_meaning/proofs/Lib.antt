@@ -1,0 +1,6 @@
+mod Small
+mod Readings
+mod Rules
+mod Replays
+mod Releases
+mod Histories
