@@ -1,5 +1,9 @@
 pub mod Limits
 pub mod Kept
 pub mod Bytes
+pub mod Lends
 pub mod Messages
 pub mod Machine
+pub mod Sound
+pub mod Ends
+pub mod Settling

@@ -1,5 +1,5 @@
 //! Bytes and sequences, which contracts see as lists.
-use std::alloc::{AllocError, Global};
+use std::alloc::{AllocError, AllocFailed, Global};
 use std::marker::Model;
 
 /// Want of memory: a growth was refused. It is the one answer that no clause ties to a cause.
@@ -8,6 +8,13 @@ pub struct NoMemory;
 
 impl From<AllocError> for NoMemory {
     fn from(_error: AllocError) -> NoMemory {
+        NoMemory
+    }
+}
+
+/// What could not be stored is dropped.
+impl<T: Drop> From<AllocFailed<T>> for NoMemory {
+    fn from(_refused: AllocFailed<T>) -> NoMemory {
         NoMemory
     }
 }
@@ -94,6 +101,8 @@ impl<T> Model for Seq<T> {
 
 impl<T> Seq<T> {
     ghost use Rattle.std.specs.Prelude.{◌≡◌, ◌↔◌, ◌<◌, ◌++◌, [], length, reverse, slice_get, option_copied, option_to_list, IsSome};
+    ghost use Rattle.std.specs.Borrow.{sem};
+    ghost use Rattle.qls_model.specs.Lends.{lends_vec};
 
     /// The empty list.
     pub fn new(alloc: Global) -> Seq<T>
@@ -132,6 +141,14 @@ impl<T> Seq<T> {
         self.items.as_slice()
     }
 
+    /// The vector that holds the items, to be changed in place.
+    pub(crate) fn as_mut_vec(&mut self) -> &mut Vec<T>
+        ensures* writes_back { sem 𝓛 (lends_vec T.row self.entry result) }
+        ensures same { result.now.items ≡ self.old }
+    {
+        &mut self.items
+    }
+
     /// The item at a place, counted from 0; None exactly where there is none.
     pub fn get(&self, at: usize) -> Option<&T>
         ensures there { IsSome result ↔ (at < length self.now) }
@@ -158,15 +175,12 @@ impl<T> Seq<T> {
 
 impl<T: Drop> Seq<T> {
     ghost use Rattle.std.specs.Prelude.{◌≡◌, ◌++◌, ◌∷◌, [], IfOk, IfErr};
-
     /// Puts the item at the end. Where memory is wanting it is dropped, and nothing changes.
     pub fn push(&mut self, item: T) -> Result<(), NoMemory>
         ensures pushed { IfOk result (λ _. self.new ≡ self.old ++ item ∷ []) }
         ensures refused { IfErr result (λ _. self.new ≡ self.old) }
     {
-        match self.items.push(item) {
-            Ok(()) => Ok(()),
-            Err(_refused) => Err(NoMemory),
-        }
+        self.items.push(item)?;
+        Ok(())
     }
 }

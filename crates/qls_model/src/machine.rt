@@ -1,10 +1,8 @@
 // The types of the plain machine.
 use crate::bytes::{Bytes, Seq};
 use crate::name::{Name, Xid};
-use std::alloc::Global;
-use std::marker::Model;
 
-/// A pool of empty files: its partition, and the KiB of data of its files.
+/// A pool of empty files: its partition, 1 to 999, and the KiB of data of its files, 4 to 65,536 and a multiple of 4.
 #[derive(Clone, Copy, Debug, PartialEq, Eq)]
 pub struct PoolId {
     pub part: u16,
@@ -29,6 +27,7 @@ impl PoolId {
     }
 }
 
+/// How a message stands: ready, or put or taken by a transaction that has not ended.
 #[derive(Clone, Copy)]
 pub enum Status {
     Ready,
@@ -36,6 +35,7 @@ pub enum Status {
     Going(Xid),
 }
 
+/// A message of a queue: its number there, from 1 on, its body of at most 1,048,576 bytes, and how it stands.
 #[derive(Drop)]
 pub struct Message {
     pub number: u64,
@@ -43,6 +43,7 @@ pub struct Message {
     pub status: Status,
 }
 
+/// A queue: the last number that it gave, below 2^62, and its messages by rising number.
 #[derive(Drop)]
 pub struct QueueState {
     pub name: Name,
@@ -50,12 +51,15 @@ pub struct QueueState {
     pub messages: Seq<Message>,
 }
 
+/// How far a transaction is that has begun.
 #[derive(Clone, Copy, Debug, PartialEq, Eq)]
 pub enum Phase {
     Open,
     Prepared,
 }
 
+/// A command. With an xid a put or a take is part of that transaction, and counts once it commits; `home` is the pool of
+/// a new queue's files, which the plain machine does not look at.
 #[derive(Drop)]
 pub enum Command {
     Queue {
@@ -93,19 +97,30 @@ pub enum Command {
     Doubt,
 }
 
+/// Why a command was refused, in the order in which refusals are tested. A refused command changes nothing.
 #[derive(Clone, Copy, Debug, PartialEq, Eq)]
 pub enum Refusal {
+    /// The line is no command, or passes a limit.
     Line,
+    /// The queue is there already, or the xid in the table.
     Exists,
+    /// There is no such queue.
     Queue,
+    /// The xid is not in the table.
     Xid,
+    /// The xid is prepared.
     Phase,
+    /// The queue has no message of that number.
     Message,
+    /// The message is coming or going.
     Locked,
+    /// The queue holds a message.
     Busy,
+    /// The queue's last number is 2^62 - 1.
     Spent,
 }
 
+/// What a command answers: a put its number, `list` the messages, `doubt` the prepared xids in byte order.
 #[derive(Drop)]
 pub enum Reply {
     Done,
@@ -115,7 +130,7 @@ pub enum Reply {
     Refused(Refusal),
 }
 
-/// What becomes of a transaction.
+/// What becomes of a transaction: it commits, it aborts, or it stays in doubt.
 #[derive(Clone, Copy, Debug, PartialEq, Eq)]
 pub enum Verdict {
     Commit,
@@ -123,33 +138,9 @@ pub enum Verdict {
     Doubt,
 }
 
-/// The state of the plain machine.
-#[derive(Drop)]
-pub struct State {
-    queues: Seq<QueueState>,
-    xids: Seq<(Xid, Phase)>,
-}
-
-impl Model for State {
-    ghost use Rattle.std.specs.Prelude.{map};
-    ghost use Rattle.qls_model.specs.Machine.{MachineState};
-
-    ghost Value = { MachineState };
-
-    ghost view = { λ a. record { queues = a.queues; xids = map (λ e. record { xid = e.0; phase = e.1 }) a.xids } };
-}
-
-impl State {
-    ghost use Rattle.std.specs.Prelude.{◌≡◌};
-    ghost use Rattle.qls_model.specs.Machine.{empty_state};
-
-    /// No queue and no xid.
-    pub fn empty(alloc: Global) -> State
-        ensures { result ≡ empty_state }
-    {
-        State {
-            queues: Seq::new(alloc),
-            xids: Seq::new(alloc),
-        }
-    }
+/// A transaction that has begun, and how far it is.
+#[derive(Clone, Copy)]
+pub struct XidState {
+    pub xid: Xid,
+    pub phase: Phase,
 }

@@ -1,7 +1,7 @@
 //! Names of at most 200 bytes and xids of at most 128, kept in place and seen as lists.
-use std::marker::Model;
-
 ghost use Rattle.std.specs.Prelude.{◌≡◌, ◌≤◌, ◌-◌, ◌++◌, length, replicate};
+
+use std::marker::Model;
 
 /// The bytes, with zeros behind them.
 fn with_zeros<const N: usize>(from: &[u8]) -> [u8; N]
