@@ -1,5 +1,5 @@
 -- How many files a batch comes to, and where they start.
-use Rattle.std.proofs.Common.{◌≡◌, ℕ, ◌+◌, ◌-◌, ◌*◌, ◌/◌, ◌%◌, ◌<◌, ◌≤◌, refl, sym, ap, ◌∙◌, arith}
+use Rattle.std.proofs.Common.{◌≡◌, ℕ, ◌+◌, ◌-◌, ◌*◌, ◌/◌, ◌%◌, ◌<◌, ◌≤◌, ap, ◌∙◌, arith}
 use Rattle.std.proofs.Math.Nat.{le-div_iff_mul-le, div-mul-le_self, mul_left_comm, mul_comm}
 use Rattle.qls_blocks.specs.Batching.{block_length}
 

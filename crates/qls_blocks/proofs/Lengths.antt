@@ -1,5 +1,5 @@
 -- Lengths of records and of batches.
-use Rattle.std.proofs.Common.{◌≡◌, ℕ, zero, suc, ◌+◌, ◌-◌, ◌*◌, ◌/◌, ◌%◌, ◌<◌, ◌≤◌, Bool, true, List, [], ◌∷◌, ◌++◌, length, replicate, map, drop, refl, sym, ap, ◌∙◌, arith, leb→le, leb, subst, T, lit≤, le_trans}
+use Rattle.std.proofs.Common.{◌≡◌, ℕ, zero, suc, ◌+◌, ◌-◌, ◌*◌, ◌/◌, ◌%◌, ◌<◌, ◌≤◌, true, List, [], ◌∷◌, ◌++◌, length, replicate, map, drop, refl, sym, ap, ◌∙◌, arith, leb→le, leb, subst, T, lit≤}
 use Rattle.std.proofs.lemmas.Bool.{and_parts}
 use Rattle.qls_shape.specs.Lengths.{padded_length}
 use Rattle.qls_shape.specs.declared.Version.TheVariants.{Two}

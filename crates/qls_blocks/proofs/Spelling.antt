@@ -1,5 +1,5 @@
 -- What a batch spells, put together from its parts.
-use Rattle.std.proofs.Common.{◌≡◌, ℕ, ◌+◌, List, [], ◌∷◌, ◌++◌, length, refl, sym, ap, ◌∙◌, arith, append_assoc, length-append, ap₂, ◌<◌, ◌≤◌, ◌-◌, suc, zero, replicate}
+use Rattle.std.proofs.Common.{◌≡◌, ℕ, ◌+◌, List, [], ◌∷◌, ◌++◌, length, refl, sym, ap, ◌∙◌, arith, append_assoc, length-append, ap₂, ◌<◌, ◌-◌, suc, replicate}
 use Rattle.qls_shape.specs.declared.Version.TheVariants.{Two}
 use Rattle.qls_record.specs.Record.{Record, record_length}
 use Rattle.qls_record.specs.Spelling.{spelling}

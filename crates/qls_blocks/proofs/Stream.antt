@@ -1,13 +1,11 @@
 -- A batch in the stream of the files that it lies over.
-use Rattle.std.proofs.Common.{◌≡◌, ℕ, zero, suc, ◌+◌, ◌-◌, ◌*◌, ◌/◌, ◌<◌, ◌≤◌, Bool, true, false, cond, ◌&&◌, ltb, List, [], ◌∷◌, ◌++◌, map, length, Option, Some, None, refl, sym, ap, ap₂, ◌∙◌, arith, get_or, length-append, subst, T, ltb→lt}
+use Rattle.std.proofs.Common.{◌≡◌, ℕ, suc, ◌+◌, ◌-◌, ◌/◌, ◌<◌, ◌≤◌, Bool, true, false, cond, ◌&&◌, ltb, List, [], ◌∷◌, ◌++◌, map, length, Option, Some, refl, sym, ap, ap₂, ◌∙◌, arith, get_or, length-append, subst, T, ltb→lt}
 use Rattle.std.proofs.Math.Nat.{div-eq_of_lt}
-use Rattle.std.proofs.lemmas.Nat.{div-mul-add}
-use Rattle.std.proofs.lemmas.Bool.Decides.{nat_tests}
 use Rattle.qls_shape.specs.declared.Version.TheVariants.{Two}
 use Rattle.qls_record.specs.Record.{Record, record_length, is_enqueue}
 use Rattle.qls_record.specs.Spelling.{spelling}
 use Rattle.qls_meaning.specs.Journals.{Headed}
-use Rattle.qls_meaning.specs.Reading.{Holder, Placed, holder, stream, length_in, held_length, held_spelling, spelled_from, placed_from, end_from}
+use Rattle.qls_meaning.specs.Reading.{Holder, holder, stream, length_in, held_length, held_spelling, spelled_from, placed_from, end_from}
 use Rattle.qls_meaning.specs.Damage.{first_in, rid_before}
 use Rattle.qls_blocks.specs.Batching.{length_of, laid_from, places_from}
 use Rattle.qls_blocks.specs.Spelled.{serial_at, spelled_over}

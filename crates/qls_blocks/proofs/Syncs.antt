@@ -1,12 +1,11 @@
 -- One sync after another.
-use Rattle.std.proofs.Common.{◌≡◌, ℕ, zero, suc, ◌+◌, ◌<◌, ◌≤◌, List, [], ◌∷◌, ◌++◌, length, take, Option, Some, None, Result, Ok, Err, refl, sym, ap, ◌∙◌, subst, arith, get_or, add-one}
+use Rattle.std.proofs.Common.{◌≡◌, ℕ, zero, suc, ◌+◌, ◌<◌, List, [], ◌∷◌, ◌++◌, length, take, Option, Some, None, Ok, Err, refl, sym, ap, ◌∙◌, subst, arith, get_or, add-one}
 use Rattle.std.specs.Prelude.{IfSome}
-use Rattle.std.specs.List.{AllByRecursion}
 use Rattle.std.proofs.Math.Seq.{take-suc}
 use Rattle.qls_site.specs.declared.site.SiteError.{SiteError}
 use Rattle.qls_site.specs.declared.site.SiteError.TheVariants.{Failed, Memory}
-use Rattle.qls_site.specs.Disk.{FileState, all_written, sync_at}
-use Rattle.qls_site.specs.Content.{Moment, Content, Tells, Leads, Acts, Stays, HasFile, CountsOne, on_disk}
+use Rattle.qls_site.specs.Disk.{all_written, sync_at}
+use Rattle.qls_site.specs.Content.{Content, Tells, Leads, Acts, Stays, HasFile, CountsOne, on_disk}
 use Rattle.qls_site.proofs.Told.{HasFile-change}
 use Rattle.qls_blocks.specs.Parts.{HasFiles, Syncs, CountsUpTo, with_sync, with_syncs}
 

@@ -3,7 +3,7 @@ use Rattle.std.specs.Prelude.{◌≡◌, ℕ, ◌+◌, ◌≤◌, ◌<◌, List,
 use Rattle.std.specs.List.{AllByRecursion}
 use Rattle.qls_site.specs.declared.site.SiteError.{SiteError}
 use Rattle.qls_site.specs.Disk.{sync_at}
-use Rattle.qls_site.specs.Content.{Moment, Content, Acts, Stays, Leads, HasFile, on_disk}
+use Rattle.qls_site.specs.Content.{Content, Stays, Leads, HasFile, on_disk}
 
 -- each of the files is there
 abbrev pub HasFiles : List ℕ → Content → Type 0

@@ -126,7 +126,15 @@ impl Batch {
         let serials = serials.as_slice();
         let place = spell::records(&self.entries, used, end, capacity, serials, &mut bytes)?;
         let filler = spell::filler(alloc, self.last_rid);
-        spell::fillers(&filler, plan.fillers, place, end, capacity, serials, &mut bytes)?;
+        spell::fillers(
+            &filler,
+            plan.fillers,
+            place,
+            end,
+            capacity,
+            serials,
+            &mut bytes,
+        )?;
         Ok(Bytes::from_vec(bytes))
     }
 }

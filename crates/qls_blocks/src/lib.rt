@@ -8,16 +8,14 @@
 mod batch;
 mod entry;
 mod laws;
-
 mod parts;
 mod plan;
 mod spell;
 
 pub use batch::Batch;
 pub use laws::batch_over_files;
-
 pub use parts::{sync_parts, write_part};
 pub use plan::{FreshFile, Plan};
 
-
-
+#[cfg(test)]
+mod tests;

@@ -36,7 +36,13 @@ fn spell_onto(entry: &Entry, serial: u64, into: &mut Vec<u8>) -> Result<(), NoMe
     let from = into.len();
     let more = entry.length() as usize;
     into.resize(from + more, 0)?;
-    encode_into(&entry.head, serial, entry.xid.as_slice(), entry.body.as_slice(), &mut into[from..]);
+    encode_into(
+        &entry.head,
+        serial,
+        entry.xid.as_slice(),
+        entry.body.as_slice(),
+        &mut into[from..],
+    );
     Ok(())
 }
 

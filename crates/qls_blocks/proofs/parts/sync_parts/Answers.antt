@@ -1,4 +1,4 @@
-use Rattle.std.proofs.Common.{◌≡◌, ℕ, List, Ok, Err, length, subst, sym, rules, arith}
+use Rattle.std.proofs.Common.{ℕ, List, subst, sym, rules}
 use Rattle.std.specs.Prelude.{IfSome}
 use Rattle.qls_blocks.specs.Parts.{HasFiles}
 use Rattle.qls_blocks.proofs.Syncs.{next_there, one_more_synced, one_more_counted}

@@ -1,5 +1,4 @@
-use Rattle.std.proofs.Common.{◌≡◌, ℕ, suc, ◌+◌, ◌-◌, ◌*◌, ◌<◌, List, ◌++◌, map, drop, rules, arith}
-use Rattle.qls_record.specs.Record.{Record}
+use Rattle.std.proofs.Common.{◌≡◌, ℕ, suc, ◌+◌, ◌-◌, ◌*◌, ◌<◌, ◌++◌, map, drop, rules, arith}
 use Rattle.qls_blocks.specs.Entries.{record_of}
 use Rattle.qls_blocks.specs.Plans.{fresh_file}
 use Rattle.qls_blocks.proofs.Fresh.{one_more_file, all_files}

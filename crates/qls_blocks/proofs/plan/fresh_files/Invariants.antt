@@ -1,4 +1,4 @@
-use Rattle.std.proofs.Common.{◌≡◌, ℕ, ◌+◌, ◌-◌, ◌*◌, ◌≤◌, List, ◌++◌, map, length, drop}
+use Rattle.std.proofs.Common.{◌≡◌, ◌+◌, ◌-◌, ◌*◌, ◌≤◌, List, ◌++◌, map, length, drop}
 use Rattle.qls_record.specs.Record.{Record}
 use Rattle.qls_blocks.specs.Entries.{record_of}
 use Rattle.qls_blocks.specs.Batching.{length_of}

@@ -1,8 +1,6 @@
-use Rattle.std.proofs.Common.{◌≡◌, ℕ, ◌+◌, ◌-◌, ◌/◌, ◌*◌, ◌<◌, ◌≤◌, List, [], map, length, sym, ap, ap₂, ◌∙◌, subst, arith}
-use Rattle.qls_record.specs.Record.{Record}
+use Rattle.std.proofs.Common.{◌≡◌, ◌+◌, ◌-◌, ◌/◌, ◌<◌, [], map, length, sym, ap, ap₂, ◌∙◌, subst, arith}
 use Rattle.qls_blocks.specs.Entries.{record_of}
-use Rattle.qls_blocks.specs.Batching.{length_of, block_length, filler_count, with_fillers}
-use Rattle.qls_blocks.specs.Plans.{fresh_file}
+use Rattle.qls_blocks.specs.Batching.{length_of, block_length}
 use Rattle.qls_blocks.proofs.Files.{reach}
 use Rattle.qls_blocks.proofs.Fresh.{length-starts}
 use Rattle.qls_blocks.proofs.batch.Batch.plan.Goals as goal

@@ -1,7 +1,7 @@
-use Rattle.std.proofs.Common.{◌≡◌, ℕ, ◌+◌, ◌*◌, List, [], ◌++◌, map, length, replicate, sym, ap, ap₂, ◌∙◌, arith}
+use Rattle.std.proofs.Common.{◌≡◌, ℕ, ◌*◌, List, map, length, replicate, sym, ap, ap₂, ◌∙◌, arith}
 use Rattle.qls_record.specs.Record.{Record}
 use Rattle.qls_blocks.specs.Entries.{record_of}
-use Rattle.qls_blocks.specs.Batching.{length_of, block_length, filler_count, filler_of, last_rid, with_fillers}
+use Rattle.qls_blocks.specs.Batching.{length_of, filler_count, filler_of, last_rid, with_fillers}
 use Rattle.qls_blocks.specs.Spelled.{spelled_over}
 use Rattle.qls_blocks.proofs.Lengths.{length_of-replicate, length_of-with_fillers}
 use Rattle.qls_blocks.proofs.Spelling.{joined, length-spelled_over}
