@@ -2,3 +2,4 @@ pub mod Places
 pub mod Told
 pub mod Stream
 pub mod Parts
+pub mod Steps

@@ -99,7 +99,8 @@ impl Reader {
             return Ok(end(ending(&self.files, self.at)));
         }
         let files = &self.files[self.at.file..];
-        match read_record(site, files, self.at.within, &mut self.buffer)? {
+        let found = read_record(site, files, self.at.within, &mut self.buffer)?;
+        match found {
             None => {
                 self.ended = true;
                 Ok(end(ending(&self.files, self.at)))
