@@ -1,20 +1,19 @@
 -- The record at the front of some bytes, from as many of them as were read.
-use Rattle.std.proofs.Common.{◌≡◌, ◌⊎◌, inl, inr, ℕ, zero, suc, ◌+◌, ◌-◌, ◌<◌, ◌≤◌, Bool, true, false, cond, eqb, List, [], ◌∷◌, ◌++◌, length, take, drop, min, get_or, Option, Some, None, refl, sym, ap, ap₂, ◌∙◌, subst, arith, length-append, length-drop, append_assoc, append-nil, replicate, add-one, lit≤}
+use Rattle.std.proofs.Common.{◌≡◌, ◌⊎◌, inl, inr, ℕ, zero, suc, ◌+◌, ◌-◌, ◌<◌, ◌≤◌, false, eqb, List, [], ◌∷◌, ◌++◌, length, take, drop, min, get_or, Option, Some, None, refl, sym, ap, ap₂, ◌∙◌, subst, arith, length-append, length-drop, append_assoc, append-nil, replicate, add-one, lit≤}
 use Rattle.std.specs.Prelude.{IfSome}
 use Rattle.std.specs.Option.{option_map}
 use Rattle.std.specs.List.{AllByRecursion}
 use Rattle.std.proofs.lemmas.Bool.Decides.{nat_tests}
 use Rattle.std.proofs.Math.Seq.{take-append_seam, drop-append_seam}
-use Rattle.std.proofs.lemmas.List.{drop-drop}
 use Rattle.std.proofs.lemmas.Bool.{cases_order}
 use Rattle.qls_shape.specs.Lengths.{padding}
 use Rattle.qls_shape.specs.declared.Version.TheVariants.{Two}
 use Rattle.qls_record.specs.declared.Head.{Head}
 use Rattle.qls_record.specs.declared.Kind.{Kind}
 use Rattle.qls_record.specs.declared.Kind.TheVariants.{Enqueue, Dequeue, Commit, Abort, Filler}
-use Rattle.qls_record.specs.Record.{Record, header_length, is_legal, record_length}
-use Rattle.qls_record.specs.Spelling.{record_at, spelling, header, covered, tail, padded}
-use Rattle.qls_record.specs.Head.{head_at, head_of, head_record_length, record_with}
+use Rattle.qls_record.specs.Record.{Record, header_length}
+use Rattle.qls_record.specs.Spelling.{record_at, spelling, header, covered, tail}
+use Rattle.qls_record.specs.Head.{head_at, head_of, head_record_length}
 use Rattle.qls_record.proofs.RoundTrip.{record_at_spells, regrouped}
 use Rattle.qls_record.proofs.RecordLength.{length-header, stands_split}
 use Rattle.qls_record.proofs.HeadTrip.{no_props, head_length, head_of_record_at, record_fits}
@@ -25,7 +24,7 @@ use Rattle.qls_site.specs.Content.{Content, Moment, Tells}
 use Rattle.qls_reader.specs.Spots.{stream_on, area_on, all_length, data_length, AreThere, IsThere, HasSize}
 use Rattle.qls_reader.specs.Reads.{OnlyReads}
 use Rattle.qls_reader.proofs.Stream.{length-stream, length-area}
-use Rattle.qls_reader.specs.Records.{record_on, record_from, body_place, IsFront}
+use Rattle.qls_reader.specs.Records.{record_on, record_from, IsFront}
 use Rattle.qls_reader.proofs.Places.{none, IsAtMost}
 use Rattle.qls_reader.proofs.Told.{still, before}
 
@@ -106,6 +105,7 @@ whole_there s all bytes h found is front e = go (record_at Two s bytes) refl ∙
   where
     same : record_at Two s bytes ≡ record_at Two s all
     same = ap (record_at Two s) front.is ∙ same_record s front.count all h is front.enough
+
     go : (o : Option Record) → record_at Two s bytes ≡ o → option_map (record_from bytes) found ≡ record_at Two s bytes
     go None at = ap (option_map (record_from bytes)) (e ∙ ap (option_map head_of) at) ∙ sym at
     go (Some r) at = ap (option_map (record_from bytes)) (e ∙ ap (option_map head_of) at) ∙ ap Some (from_bytes s bytes r at) ∙ sym at
@@ -186,19 +186,23 @@ parted p n k a b le e = ap (take n) (drop_first p a b le) ∙ go (cases_order n 
   where
     rest : List ℕ
     rest = drop p a
+
     size : length rest ≡ length a - p
     size = length-drop p a
+
     few : n ≤ length a - p → take n (rest ++ b) ≡ take k rest ++ take (n - k) b
     few l =
         let same : k ≡ n = grind arith in
         let none_left : 0 ≡ n - k = omega (arith, same) in
         all_behind n rest b (omega (arith, l, size)) ∙ sym (append-nil (take n rest)) ∙ ap₂ (λ (i j : ℕ). take i rest ++ take j b) (sym same) none_left
+
     many : length a - p ≤ n → take n (rest ++ b) ≡ take k rest ++ take (n - k) b
     many l =
         let same : k ≡ length rest = grind (arith, size) in
         let left_over : n - length rest ≡ n - k = omega (arith, same) in
         past_first n rest b (omega (arith, l, size))
         ∙ ap₂ (λ (xs : List ℕ) (j : ℕ). xs ++ take j b) (sym (take_whole k rest (omega (arith, same)))) left_over
+
     go : (n ≡ length a - p) ⊎ ((n < length a - p) ⊎ (length a - p < n)) → take n (rest ++ b) ≡ take k rest ++ take (n - k) b
     go (inl e) = few (omega (arith, e))
     go (inr (inl l)) = few (omega (arith, l))

@@ -1,11 +1,8 @@
 -- Places in files one behind another.
-use Rattle.std.proofs.Common.{◌≡◌, ℕ, zero, suc, ◌+◌, ◌-◌, ◌<◌, ◌≤◌, Bool, true, false, cond, ltb, eqb, add-one, List, [], ◌∷◌, length, take, drop, get_or, refl, sym, ap, ◌∙◌, arith, subst, T, leb→le}
-use Rattle.std.proofs.lemmas.Bool.{and_parts}
-use Rattle.std.proofs.lemmas.Bool.Decides.{nat_tests}
+use Rattle.std.proofs.Common.{◌≡◌, ℕ, zero, suc, ◌+◌, ◌-◌, ◌<◌, ◌≤◌, true, false, cond, ltb, eqb, add-one, List, [], ◌∷◌, length, take, drop, get_or, refl, sym, ap, ◌∙◌, arith}
 use Rattle.qls_reader.specs.declared.spot.FileSpot.{FileSpot}
-use Rattle.qls_reader.specs.declared.spot.EndSpot.{EndSpot}
 use Rattle.qls_reader.specs.Spots.{data_length, all_length, first_spot, end_spot}
-use Rattle.qls_reader.specs.Places.{IsWithin, AreSound}
+use Rattle.qls_reader.specs.Places.{IsWithin}
 
 -- the place lies in the first file, or at its end
 abbrev pub IsAtMost : ℕ → List FileSpot → Type 0

@@ -1,18 +1,16 @@
 -- The joined data areas, from a place of one of the files on.
-use Rattle.std.proofs.Common.{◌≡◌, ℕ, zero, suc, ◌+◌, ◌-◌, ◌<◌, ◌≤◌, Bool, true, false, cond, ltb, eqb, List, [], ◌∷◌, ◌++◌, length, take, drop, min, Option, Some, None, refl, sym, ap, ap₂, ◌∙◌, subst, arith, length-append, length-drop}
-use Rattle.std.specs.Prelude.{IfSome}
+use Rattle.std.proofs.Common.{◌≡◌, ℕ, zero, suc, ◌+◌, ◌-◌, ◌<◌, ◌≤◌, Bool, true, false, cond, eqb, List, [], ◌∷◌, ◌++◌, length, take, drop, Option, Some, None, refl, sym, ap, ap₂, ◌∙◌, arith, length-append, length-drop}
 use Rattle.qls_shape.specs.declared.Version.TheVariants.{Two}
-use Rattle.qls_record.specs.Record.{Record}
 use Rattle.qls_record.specs.Spelling.{record_at}
-use Rattle.qls_site.specs.Disk.{Disk, FileState, file_of, bytes_at, seen_bytes, size_of}
-use Rattle.qls_site.specs.Content.{Content, Tells}
+use Rattle.qls_site.specs.Disk.{Disk, FileState, file_of, seen_bytes}
+use Rattle.qls_site.specs.Content.{Content}
 use Rattle.qls_meaning.specs.Journals.{Headed}
-use Rattle.qls_meaning.specs.Reading.{Holder, holder, stream, record_in, held_record, number_of, place_of, begin_place, first_place}
+use Rattle.qls_meaning.specs.Reading.{holder, stream, record_in, held_record, number_of, place_of, begin_place, first_place}
 use Rattle.qls_reader.specs.declared.spot.FileSpot.{FileSpot}
 use Rattle.qls_reader.specs.Spots.{data_length, all_length, area_on, stream_on, IsThere, AreThere, HasSize, IsSpotOf, AreSpotsOf, AreSeen, first_spot, begin_of}
 use Rattle.qls_reader.specs.Places.{IsWithin, number_at}
 use Rattle.qls_reader.specs.Records.{record_on}
-use Rattle.qls_reader.proofs.Places.{IsAtMost, not_before, before}
+use Rattle.qls_reader.proofs.Places.{not_before, before}
 
 -- ---- lengths
 

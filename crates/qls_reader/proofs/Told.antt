@@ -1,5 +1,5 @@
 -- One read after another.
-use Rattle.std.proofs.Common.{◌≡◌, ℕ, zero, suc, ◌+◌, ◌-◌, ◌<◌, ◌≤◌, List, [], ◌∷◌, ◌++◌, length, take, drop, replicate, Option, Some, None, Result, Ok, Err, refl, sym, ap, ap₂, ◌∙◌, subst, arith, append_assoc, append-nil}
+use Rattle.std.proofs.Common.{◌≡◌, ℕ, zero, suc, ◌+◌, List, ◌∷◌, ◌++◌, take, drop, replicate, Option, Some, None, Result, Ok, Err, refl, sym, ap, ap₂, ◌∙◌, subst, arith, append_assoc, append-nil}
 use Rattle.std.specs.Prelude.{IfSome}
 use Rattle.std.proofs.lemmas.List.{drop-drop}
 use Rattle.qls_site.specs.declared.site.SiteError.{SiteError}
@@ -7,7 +7,7 @@ use Rattle.qls_site.specs.declared.site.SiteError.TheVariants.{Failed, Memory}
 use Rattle.qls_site.specs.Disk.{Disk, bytes_at}
 use Rattle.qls_site.specs.Content.{Moment, Content, Tells, Leads, Stays, IsRead}
 use Rattle.qls_reader.specs.declared.spot.FileSpot.{FileSpot}
-use Rattle.qls_reader.specs.Spots.{area_on, AreThere}
+use Rattle.qls_reader.specs.Spots.{area_on}
 use Rattle.qls_reader.specs.Reads.{OnlyReads}
 
 pub only_none : (a : Option Content) → Tells OnlyReads a a

@@ -1,5 +1,5 @@
 -- Reads on a site: the disk stays.
-use Rattle.std.specs.Prelude.{◌≡◌, ℕ, ◌≤◌, List, ◌++◌, replicate, Result, Err}
+use Rattle.std.specs.Prelude.{◌≡◌, ℕ, ◌≤◌, ◌++◌, replicate, Result, Err}
 use Rattle.qls_site.specs.Content.{Content, Rose}
 use Rattle.qls_reader.specs.declared.fault.ReadFault.{ReadFault}
 use Rattle.qls_reader.specs.declared.fault.ReadFault.TheVariants.{Failed}

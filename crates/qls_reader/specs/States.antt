@@ -1,8 +1,8 @@
 -- What a reader has read, and what its next step answers.
-use Rattle.std.specs.Prelude.{◌≡◌, ℕ, ◌+◌, ◌-◌, ◌≤◌, Bool, true, false, List, Option, Some, None, Result, Ok, Err}
+use Rattle.std.specs.Prelude.{◌≡◌, ℕ, ◌+◌, ◌-◌, ◌≤◌, Bool, true, false, List, Some, None, Result, Ok, Err}
 use Rattle.qls_record.specs.declared.Got.{Got}
 use Rattle.qls_meaning.specs.Journals.{Headed}
-use Rattle.qls_meaning.specs.Reading.{record_in, Placed, holder, number_of, place_of, length_in, located, read_of}
+use Rattle.qls_meaning.specs.Reading.{record_in, holder, number_of, place_of, length_in, located, read_of}
 use Rattle.qls_reader.specs.declared.spot.FileSpot.{FileSpot}
 use Rattle.qls_reader.specs.declared.fault.ReadFault.{ReadFault}
 use Rattle.qls_reader.specs.declared.reader.Next.{Next}

@@ -146,8 +146,20 @@ fn hand_out(
 {
     let (xid, body) = parts(alloc, &head, bytes)?;
     let whole = length(&head);
-    let last = settled(files, Position { within: at.within + (whole - 1), ..at });
-    let after = settled(files, Position { within: at.within + whole, ..at });
+    let last = settled(
+        files,
+        Position {
+            within: at.within + (whole - 1),
+            ..at
+        },
+    );
+    let after = settled(
+        files,
+        Position {
+            within: at.within + whole,
+            ..at
+        },
+    );
     let got = Got {
         head,
         xid,

@@ -1,4 +1,4 @@
-use Rattle.std.proofs.Common.{◌≡◌, ℕ, suc, ◌+◌, ◌-◌, ◌≤◌, min, drop, get_or, ap, ◌∙◌, arith, rules, add-one}
+use Rattle.std.proofs.Common.{◌≡◌, suc, ◌+◌, ◌-◌, ◌≤◌, min, drop, get_or, ap, ◌∙◌, arith, rules, add-one}
 use Rattle.qls_reader.specs.Spots.{data_length, all_length}
 use Rattle.qls_reader.proofs.Places.{none, at_most_zero, all_length-drop}
 use Rattle.qls_reader.proofs.Told.{only_then}

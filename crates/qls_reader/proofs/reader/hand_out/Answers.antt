@@ -1,4 +1,4 @@
-use Rattle.std.proofs.Common.{◌≡◌, ℕ, ◌+◌, ◌-◌, List, take, drop, ap, sym, ◌∙◌, arith}
+use Rattle.std.proofs.Common.{◌≡◌, ℕ, ◌+◌, ◌-◌, take, drop, ap, sym, ◌∙◌, arith}
 use Rattle.qls_record.specs.Head.{head_record_length}
 use Rattle.qls_meaning.specs.Reading.{holder, number_of, place_of}
 use Rattle.qls_reader.specs.Spots.{all_length}

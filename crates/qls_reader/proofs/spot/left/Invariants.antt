@@ -1,4 +1,4 @@
-use Rattle.std.proofs.Common.{◌≡◌, ◌+◌, ◌-◌, ◌≤◌, min, drop}
+use Rattle.std.proofs.Common.{◌≡◌, ◌+◌, ◌-◌, min, drop}
 use Rattle.qls_reader.specs.Spots.{all_length}
 use Rattle.qls_reader.proofs.Places.{IsAtMost}
 use Rattle.qls_reader.proofs.spot.left.Given as goal

@@ -1,4 +1,4 @@
-use Rattle.std.proofs.Common.{arith, rules}
+use Rattle.std.proofs.Common.{arith}
 use Rattle.qls_reader.proofs.Places.{settle_on}
 use Rattle.qls_reader.proofs.spot.settled.Goals as goal
 

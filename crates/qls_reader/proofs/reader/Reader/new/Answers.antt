@@ -1,6 +1,4 @@
-use Rattle.std.proofs.Common.{◌≡◌, List, ◌∙◌, ap}
-use Rattle.qls_reader.specs.declared.spot.FileSpot.{FileSpot}
-use Rattle.qls_reader.specs.Spots.{begin_of, all_length}
+use Rattle.std.proofs.Common.{◌≡◌}
 use Rattle.qls_reader.proofs.Stream.{begin_there}
 use Rattle.qls_reader.proofs.reader.Reader.new.Goals as goal
 

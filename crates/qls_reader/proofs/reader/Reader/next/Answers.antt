@@ -1,5 +1,3 @@
-use Rattle.std.proofs.Common.{drop, sym, ap, ◌∙◌, rules, arith}
-use Rattle.std.proofs.lemmas.Grind.{common_steps}
 use Rattle.qls_reader.proofs.Steps.{ends_next, gets_next, whole_rest, there_is}
 use Rattle.qls_reader.proofs.reader.Reader.next.Goals as goal
 
