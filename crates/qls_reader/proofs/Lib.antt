@@ -1,0 +1,5 @@
+pub mod Places
+pub mod Told
+pub mod Stream
+pub mod Parts
+pub mod Steps

@@ -1,0 +1,5 @@
+pub mod Spots
+pub mod Places
+pub mod Records
+pub mod Reads
+pub mod States
