@@ -14,3 +14,6 @@ mod spot;
 pub use fault::ReadFault;
 pub use reader::{Next, Reader};
 pub use spot::FileSpot;
+
+#[cfg(test)]
+mod tests;

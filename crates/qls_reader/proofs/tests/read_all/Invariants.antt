@@ -1,0 +1,6 @@
+use Rattle.std.specs.Prelude.{IfSome}
+use Rattle.qls_reader.specs.Spots.{AreThere}
+use Rattle.qls_reader.proofs.tests.read_all.Given as goal
+
+abbrev pub invariant-loop : goal.invariant-loop
+invariant-loop g l = IfSome (g.S.Site.told l.site) (AreThere l.reader.files)
