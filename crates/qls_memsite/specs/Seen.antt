@@ -6,7 +6,7 @@ use Rattle.qls_site.specs.declared.site.Place.{Place}
 use Rattle.qls_site.specs.declared.site.Place.TheVariants.{Empty}
 use Rattle.qls_site.specs.declared.site.FileAt.{FileAt}
 use Rattle.qls_site.specs.declared.site.ImageFile.{ImageFile}
-use Rattle.qls_site.specs.Disk.{Image, Write, written}
+use Rattle.qls_site.specs.Disk.{Image, written}
 pub use Rattle.qls_site.specs.Disk.{AllAbove, IdsRise}
 
 abbrev pub seen_of : ℕ → Image → Option ImageFile
