@@ -1,5 +1,5 @@
 -- The journals of files without their data areas are the journals without theirs.
-use Rattle.std.proofs.Common.{◌≡◌, ℕ, ◌&&◌, ◌||◌, Bool, true, false, cond, not, List, [], ◌∷◌, ◌++◌, map, refl, sym, ap, ap₂, ◌∙◌, eqb, ltb}
+use Rattle.std.proofs.Common.{◌≡◌, ℕ, ◌&&◌, ◌||◌, true, false, cond, not, List, [], ◌∷◌, ◌++◌, map, refl, sym, ap, ap₂, ◌∙◌, eqb, ltb}
 use Rattle.std.specs.List.{filter, list_any}
 use Rattle.std.proofs.lemmas.List.{map-append}
 use Rattle.qls_shape.specs.Claims.{each, ◌>>=◌}
@@ -8,7 +8,6 @@ use Rattle.qls_filehdr.specs.declared.JournalKind.TheVariants.{Queue, List as Li
 use Rattle.qls_meaning.specs.Journals.{Headed, Journal, is_of, is_queue, with_numbered, by_number, journal, with_name, queue_names, list_journals, journals}
 use Rattle.qls_meaning.specs.Damage.{Checked, next_claims, chain_claims}
 use Rattle.qls_scan.specs.declared.answers.HeadedFile.{HeadedFile}
-use Rattle.qls_scan.specs.declared.answers.JournalFiles.{JournalFiles}
 use Rattle.qls_scan.specs.Found.{head_of, with_no_area, files_of}
 
 abbrev blank : Headed → Headed

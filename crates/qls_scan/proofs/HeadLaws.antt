@@ -1,28 +1,27 @@
 -- Reading the headers of the files in use, one after another.
-use Rattle.std.proofs.Common.{◌≡◌, ℕ, ◌+◌, ◌<◌, ◌≤◌, Bool, true, false, cond, List, [], ◌∷◌, ◌++◌, map, length, take, drop, replicate, eqb, leb, Option, Some, None, IfSome, IfOk, IsTrue, option_map, Result, Ok, Err, refl, sym, ap, ◌∙◌, subst, arith, append_assoc, drop-cons, get_or}
-use Rattle.std.specs.List.{AllByRecursion}
+use Rattle.std.proofs.Common.{◌≡◌, ℕ, ◌+◌, ◌<◌, ◌≤◌, Bool, true, false, cond, List, ◌++◌, map, length, take, drop, eqb, leb, Option, Some, None, IfSome, IfOk, IsTrue, option_map, Result, Ok, Err, refl, sym, ap, ◌∙◌, subst, arith, get_or}
 use Rattle.std.proofs.lemmas.Bool.Decides.{nat_tests}
 use Rattle.qls_shape.specs.Claims.{each, claim, of_file, ◌>>=◌, ◌>>◌}
 use Rattle.qls_site.specs.declared.site.FileAt.{FileAt}
 use Rattle.qls_site.specs.declared.site.ImageFile.{ImageFile}
-use Rattle.qls_site.specs.Disk.{Disk, FileState, all_written, size_of, seen_bytes, bytes_at, file_of, full, full_file, listed, listing, AllAbove, IdsRise}
+use Rattle.qls_site.specs.Disk.{Disk, FileState, size_of, seen_bytes, bytes_at, file_of, full, full_file, listed}
 use Rattle.qls_model.specs.Limits.{file_size}
 use Rattle.qls_filehdr.specs.declared.FileHeader.{FileHeader}
 use Rattle.qls_filehdr.specs.declared.Rule.{Rule}
 use Rattle.qls_filehdr.specs.declared.Rule.TheVariants as rule
 use Rattle.qls_filehdr.specs.Header.{header_of, header_fields, number_claims, rest_claims}
-use Rattle.qls_meaning.specs.Journals.{headed, in_use, is_in_use}
-use Rattle.qls_meaning.specs.Damage.{Checked, header_claims}
+use Rattle.qls_meaning.specs.Journals.{headed, in_use}
+use Rattle.qls_meaning.specs.Damage.{header_claims}
 use Rattle.qls_scan.specs.Found.{head_of, HasCause}
 use Rattle.qls_site.specs.Content.{Content, IsRead}
 use Rattle.std.specs.Int.{w16}
 use Rattle.qls_shape.specs.Fields.{number_at}
 use Rattle.qls_filehdr.specs.Limits.{is_legal_header, is_name}
 use Rattle.qls_filehdr.proofs.HeaderBack.{header_of_spells}
-use Rattle.qls_scan.specs.Heads.{IsListedOn, IsHeadOf, HeadIsRead, AreHeadsOf, HasLegalHeader, sized_head, head_from}
+use Rattle.qls_scan.specs.Heads.{IsListedOn, IsHeadOf, HeadIsRead, HasLegalHeader, sized_head, head_from}
 use Rattle.qls_scan.specs.declared.answers.HeadedFile.{HeadedFile}
 use Rattle.qls_scan.specs.declared.answers.ScanFault.{ScanFault}
-use Rattle.qls_scan.specs.declared.answers.ScanFault.TheVariants.{Failed, Memory, Damaged}
+use Rattle.qls_scan.specs.declared.answers.ScanFault.TheVariants.{Failed, Damaged}
 
 -- ---- one file
 

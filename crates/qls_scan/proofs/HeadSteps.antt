@@ -1,10 +1,9 @@
 -- The headers of the files in use, one file after another.
-use Rattle.std.proofs.Common.{◌≡◌, ℕ, zero, suc, ◌+◌, ◌<◌, ◌≤◌, Bool, true, false, cond, List, [], ◌∷◌, ◌++◌, map, length, drop, eqb, Option, Some, None, IfSome, IfOk, option_map, Result, Ok, Err, refl, sym, ap, ◌∙◌, subst, arith, append_assoc, add-one, get_or}
+use Rattle.std.proofs.Common.{◌≡◌, ℕ, zero, suc, ◌+◌, ◌<◌, ◌≤◌, true, false, cond, List, [], ◌∷◌, ◌++◌, map, length, drop, eqb, Option, Some, None, IfSome, option_map, Result, Ok, Err, refl, sym, ap, ◌∙◌, subst, arith, append_assoc, add-one, get_or}
 use Rattle.std.specs.List.{AllByRecursion, filter}
 use Rattle.std.proofs.lemmas.Bool.Decides.{nat_tests}
 use Rattle.qls_shape.specs.Claims.{each, ◌>>=◌}
 use Rattle.qls_site.specs.declared.site.FileAt.{FileAt}
-use Rattle.qls_site.specs.declared.site.Place.TheVariants.{InUse, Empty}
 use Rattle.qls_site.specs.Disk.{Disk, FileState, file_of, full, full_file, listed, listing, AllAbove, IdsRise}
 use Rattle.qls_site.specs.Content.{Moment, Content, Tells, OnlyLooks}
 use Rattle.qls_meaning.specs.Journals.{headed, in_use, is_in_use}

@@ -1,17 +1,14 @@
 -- What a listing shows of a site.
-use Rattle.std.proofs.Common.{◌≡◌, ℕ, ◌+◌, ◌<◌, ◌≤◌, ◌^◌, Bool, true, false, cond, not, List, [], ◌∷◌, ◌++◌, map, length, drop, eqb, ltb, leb, Option, Some, None, IfSome, option_map, Result, Ok, Err, refl, sym, ap, ◌∙◌, subst, arith}
-use Rattle.std.specs.List.{AllByRecursion, filter}
+use Rattle.std.proofs.Common.{◌≡◌, ℕ, ◌<◌, Bool, true, false, List, [], ◌∷◌, map, Ok, refl, sym, ap, subst, arith}
 use Rattle.std.proofs.lemmas.Bool.Decides.{nat_tests}
 use Rattle.qls_shape.specs.Claims.{each, claim, of_file, ◌>>=◌}
 use Rattle.qls_site.specs.declared.site.FileAt.{FileAt}
-use Rattle.qls_site.specs.declared.site.ImageFile.{ImageFile}
-use Rattle.qls_site.specs.Disk.{Disk, Image, FileState, file_of, full, full_file, listed, listing, AllAbove, IdsRise}
+use Rattle.qls_site.specs.Disk.{Disk, Image, full, listed, listing, AllAbove, IdsRise}
 use Rattle.qls_filehdr.specs.Limits.{is_counter}
 use Rattle.qls_filehdr.specs.declared.Rule.TheVariants as rule
-use Rattle.qls_meaning.specs.Journals.{is_in_use, in_use, empties}
-use Rattle.qls_meaning.specs.Damage.{Checked, id_claim, pool_claim}
-use Rattle.qls_scan.specs.Found.{listed_as, greatest}
-use Rattle.qls_scan.specs.Listed.{listed_id_claim, listed_pool_claim, ListedAbove, ListedRise}
+use Rattle.qls_meaning.specs.Damage.{Checked}
+use Rattle.qls_scan.specs.Found.{listed_as}
+use Rattle.qls_scan.specs.Listed.{listed_id_claim, ListedAbove, ListedRise}
 
 pub listing_is : (d : Disk) → listing d ≡ map listed_as (full d)
 listing_is [] = refl

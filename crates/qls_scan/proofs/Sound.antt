@@ -1,5 +1,5 @@
 -- What holds of each answer, whether the site tells its content or not.
-use Rattle.std.proofs.Common.{◌≡◌, ℕ, ◌<◌, ◌^◌, Bool, true, false, cond, not, ◌&&◌, ◌||◌, max, List, [], ◌∷◌, ◌++◌, map, length, nat_eq, eqb, ltb, Result, Ok, Err, IsTrue, refl, sym, ap, ◌∙◌, subst, arith}
+use Rattle.std.proofs.Common.{◌≡◌, ℕ, ◌<◌, ◌^◌, Bool, true, false, cond, not, ◌&&◌, ◌||◌, max, List, [], ◌∷◌, ◌++◌, map, length, eqb, ltb, Ok, Err, IsTrue, refl, sym, ap, ◌∙◌, subst, arith}
 use Rattle.std.specs.List.{AllByRecursion, filter, list_any}
 use Rattle.std.proofs.lemmas.Bool.Decides.{nat_tests}
 use Rattle.qls_model.specs.Bytes.{same, is_listed}
@@ -13,7 +13,6 @@ use Rattle.qls_filehdr.specs.declared.Rule.TheVariants as rule
 use Rattle.qls_filehdr.specs.Limits.{is_counter, is_legal_header}
 use Rattle.qls_meaning.specs.Journals.{Headed, Journal, is_in_use, is_of, is_queue, same_kind, with_numbered, by_number, journal, queue_names, list_journals, journals}
 use Rattle.qls_meaning.specs.Damage.{Checked, is_pool, chain_claims}
-use Rattle.qls_scan.specs.declared.answers.Found.{Found}
 use Rattle.qls_scan.specs.declared.answers.HeadedFile.{HeadedFile}
 use Rattle.qls_scan.specs.declared.answers.JournalFiles.{JournalFiles}
 use Rattle.qls_scan.specs.Found.{head_of, with_no_area, files_of, greatest, IsFileOf, IsInOrder, goes_before, JournalsRise, IsSound}

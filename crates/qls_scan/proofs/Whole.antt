@@ -1,13 +1,12 @@
 -- The scan as a whole, where the site tells its content.
-use Rattle.std.proofs.Common.{◌≡◌, ℕ, ◌<◌, Bool, true, false, cond, not, List, [], ◌∷◌, map, Option, Some, None, IfSome, Result, Ok, Err, refl, sym, ap, ◌∙◌, subst}
+use Rattle.std.proofs.Common.{◌≡◌, true, false, cond, not, List, [], ◌∷◌, map, Option, Some, None, IfSome, Result, Ok, Err, refl, sym, ap, ◌∙◌, subst}
 use Rattle.std.specs.List.{filter}
 use Rattle.qls_shape.specs.Claims.{each, ◌>>=◌, ◌>>◌}
 use Rattle.qls_site.specs.declared.site.FileAt.{FileAt}
-use Rattle.qls_site.specs.Disk.{Disk, Image, full, full_file, listed, listing, IdsRise}
+use Rattle.qls_site.specs.Disk.{Image, full, IdsRise}
 use Rattle.qls_site.specs.Content.{Content, Moment, IsListed, Tells, OnlyLooks}
-use Rattle.qls_meaning.specs.Journals.{Headed, Journal, headed, in_use, is_in_use, empties, journals, journals_of}
+use Rattle.qls_meaning.specs.Journals.{headed, in_use, is_in_use, empties, journals, journals_of}
 use Rattle.qls_meaning.specs.Damage.{Damage, Checked, id_claim, pool_claim, header_claims, chain_claims, scanned}
-use Rattle.qls_scan.specs.declared.answers.Found.{Found}
 use Rattle.qls_scan.specs.declared.answers.HeadedFile.{HeadedFile}
 use Rattle.qls_scan.specs.declared.answers.JournalFiles.{JournalFiles}
 use Rattle.qls_scan.specs.declared.answers.ScanFault.{ScanFault}

@@ -1,5 +1,5 @@
 -- Files in use in their groups: each group by number and then id, the queues' groups by name.
-use Rattle.std.specs.Prelude.{◌≡◌, ℕ, Bool, true, false, List, [], ◌∷◌, map, length, Option, Some, None}
+use Rattle.std.specs.Prelude.{◌≡◌, ℕ, List, [], ◌∷◌, map, Option, Some, None}
 use Rattle.std.specs.List.{AllByRecursion, filter}
 use Rattle.std.specs.declared.cmp.Ordering.{Ordering}
 use Rattle.std.specs.Ordering.{nat_cmp, ordering_then}
@@ -7,7 +7,7 @@ use Rattle.std.specs.Cmp.Lexicographic.{slice_cmp}
 use Rattle.std.specs.BTreeMap.{BTreeMap, insert_entry, is_at}
 use Rattle.std.specs.Map.{lookup, set_value, values_of}
 use Rattle.qls_filehdr.specs.declared.JournalKind.TheVariants.{Queue, List as Listed}
-use Rattle.qls_meaning.specs.Journals.{Headed, Journal, is_of, by_number, queue_names}
+use Rattle.qls_meaning.specs.Journals.{Headed, is_of, by_number, queue_names}
 use Rattle.qls_scan.specs.declared.groups.Groups.{Groups}
 use Rattle.qls_scan.specs.declared.answers.HeadedFile.{HeadedFile}
 use Rattle.qls_scan.specs.declared.answers.JournalFiles.{JournalFiles}

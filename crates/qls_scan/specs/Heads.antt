@@ -1,5 +1,5 @@
 -- Reading the headers of files in use.
-use Rattle.std.specs.Prelude.{◌≡◌, ℕ, List, map, Option, Some, None, Result, Ok, Err, IsTrue, IfSome, if◌then◌else◌, ◌==◌}
+use Rattle.std.specs.Prelude.{◌≡◌, List, map, Option, Some, None, Result, Ok, Err, IsTrue, IfSome, if◌then◌else◌, ◌==◌}
 use Rattle.std.specs.Option.{option_map}
 use Rattle.qls_shape.specs.Claims.{each}
 use Rattle.qls_site.specs.declared.site.FileAt.{FileAt}

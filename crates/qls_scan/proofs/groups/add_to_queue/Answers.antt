@@ -1,8 +1,8 @@
-use Rattle.std.proofs.Common.{◌≡◌, ap, sym, ◌∙◌, OnOk, Ok, Err, Result, Some, None, option_map}
-use Rattle.std.specs.BTreeMap.{BTreeMap, is_at}
+use Rattle.std.proofs.Common.{ap, sym, ◌∙◌, OnOk, Ok, Err, Result, None, option_map}
+use Rattle.std.specs.BTreeMap.{is_at}
 use Rattle.std.specs.Map.{lookup, set_value}
 use Rattle.qls_model.proofs.XidOrder.{order_is_bytes}
-use Rattle.qls_scan.specs.Groups.{within, with_file, add_to, with_file_of_queue}
+use Rattle.qls_scan.specs.Groups.{within, add_to}
 use Rattle.qls_scan.proofs.Names.{order}
 use Rattle.qls_scan.proofs.Grouping.{within-set, within-lookup, entries_in}
 use Rattle.qls_scan.proofs.groups.add_to_queue.Goals as goal

@@ -1,4 +1,4 @@
-use Rattle.std.proofs.Common.{◌≡◌, ap, sym, ◌∙◌, ◌∷◌, []}
+use Rattle.std.proofs.Common.{ap, ◌∙◌}
 use Rattle.std.specs.BTreeMap.{insert_entry}
 use Rattle.qls_model.proofs.XidOrder.{order_is_bytes}
 use Rattle.qls_scan.specs.Groups.{within, number_key, number_cmp}

@@ -1,4 +1,4 @@
-use Rattle.std.proofs.Common.{◌≡◌, ◌++◌, ◌∙◌, ap, map, IfOk, OnOk, Ok, Err, Result, List}
+use Rattle.std.proofs.Common.{◌++◌, ◌∙◌, ap, map, IfOk, Ok, Err, Result}
 use Rattle.qls_scan.specs.Found.{with_no_area}
 use Rattle.qls_scan.specs.Groups.{within, queue_found}
 use Rattle.qls_scan.proofs.Grouping.{groups_are, lists_named}

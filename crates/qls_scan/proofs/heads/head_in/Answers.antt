@@ -1,5 +1,4 @@
 use Rattle.std.proofs.Common.{sym, subst, IfOk, ap, ◌∙◌, rules}
-use Rattle.qls_filehdr.specs.Header.{header_of}
 use Rattle.qls_scan.specs.Heads.{head_from, HasLegalHeader}
 use Rattle.qls_scan.proofs.HeadLaws.{head_legal}
 use Rattle.qls_scan.proofs.heads.head_in.Goals as goal

@@ -6,7 +6,7 @@ use Rattle.qls_site.specs.declared.site.Place.TheVariants.{InUse}
 use Rattle.qls_site.proofs.Told.{Tells-then, OnlyLooks-then}
 use Rattle.qls_meaning.specs.Journals.{is_in_use}
 use Rattle.qls_scan.specs.Heads.{HeadIsRead, HeadsAreRead, HasLegalHeader}
-use Rattle.qls_scan.proofs.HeadSteps.{AreReadSoFar, IsTheListing, looked_back, looked_on, next_listed, next_skipped, next_taken, next_stopped, ids_skipped, ids_taken, ids_more, legal_more}
+use Rattle.qls_scan.proofs.HeadSteps.{AreReadSoFar, looked_back, looked_on, next_listed, next_skipped, next_taken, next_stopped, ids_skipped, ids_taken, ids_more, legal_more}
 use Rattle.qls_scan.proofs.heads.read_heads.Goals as goal
 
 pub loop-file-preserved-in_default : goal.loop-file-preserved-in_default

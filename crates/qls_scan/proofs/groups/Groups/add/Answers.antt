@@ -1,4 +1,4 @@
-use Rattle.std.proofs.Common.{◌≡◌, sym, refl, OnOk, Ok, Err, Result}
+use Rattle.std.proofs.Common.{refl, OnOk, Ok, Err, Result}
 use Rattle.qls_scan.specs.Found.{with_no_area}
 use Rattle.qls_scan.proofs.Grouping.{list_more, queue_more, list_name}
 use Rattle.qls_scan.proofs.groups.Groups.add.Goals as goal
