@@ -3,3 +3,4 @@ pub mod Told
 pub mod Stream
 pub mod Parts
 pub mod Steps
+pub mod Ending

@@ -7,11 +7,13 @@
 
 mod fault;
 mod fill;
+mod laws;
 mod reader;
 mod record;
 mod spot;
 
 pub use fault::ReadFault;
+pub use laws::spots_are_of_files;
 pub use reader::{Next, Reader};
 pub use spot::FileSpot;
 
