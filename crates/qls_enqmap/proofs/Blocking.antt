@@ -1,12 +1,12 @@
 -- Counts of blocks, after a record more or less, and what passing blocks passes.
-use Rattle.std.proofs.Common.{◌≡◌, ◌≢◌, ℕ, zero, suc, ◌+◌, ◌-◌, ◌*◌, ◌/◌, ◌%◌, ◌<◌, ◌≤◌, ◌^◌, min, nat_lt, nat_eq, Bool, true, false, ◌&&◌, cond, List, [], ◌∷◌, ◌++◌, length, take, get_or, set, slice_get, Option, Some, None, is_some, refl, ap, sym, subst, ◌∙◌, arith, length-set}
+use Rattle.std.proofs.Common.{◌≡◌, ℕ, zero, suc, ◌+◌, ◌-◌, ◌*◌, ◌/◌, ◌<◌, ◌≤◌, min, nat_lt, nat_eq, Bool, true, false, ◌&&◌, cond, List, [], ◌∷◌, ◌++◌, length, take, get_or, set, slice_get, Option, Some, None, is_some, refl, ap, sym, ◌∙◌, arith, length-set}
 use Rattle.std.proofs.Math.Nat.{mul_comm, mul-le-mul_right}
 use Rattle.std.proofs.lemmas.List.{get_or-set_same, get_or-set_other}
 use Rattle.std.specs.List.{cons_option}
 use Rattle.qls_enqmap.specs.declared.Held.{Held}
 use Rattle.std.specs.Map.{lookup, set_value}
 use Rattle.qls_enqmap.specs.declared.blocks.Blocks.{Blocks}
-use Rattle.qls_enqmap.specs.Slots.{Slots, held_in, occupied, all_of, before, HasRid, RisesFrom, IsSlotOf, Gains, Loses, IsCounted, AreCounted}
+use Rattle.qls_enqmap.specs.Slots.{Slots, held_in, occupied, all_of, before, RisesFrom, IsSlotOf, Gains, Loses, IsCounted, AreCounted}
 use Rattle.qls_enqmap.proofs.Kept.{few}
 
 -- ---- how many before a place

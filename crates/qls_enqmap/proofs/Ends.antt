@@ -1,5 +1,5 @@
 -- Slots by their places: the last, the one at an index, and what is left when holes go.
-use Rattle.std.proofs.Common.{◌≡◌, ℕ, zero, suc, ◌+◌, ◌-◌, ◌<◌, ◌≤◌, Bool, true, false, not, ◌&&◌, nat_eq, cond, List, [], ◌∷◌, ◌++◌, length, take, drop, slice_get, Option, Some, None, is_some, is_none, option_to_list, refl, ap, sym, subst, ◌∙◌, append-nil, length-append, arith}
+use Rattle.std.proofs.Common.{◌≡◌, ℕ, zero, suc, ◌+◌, ◌-◌, ◌<◌, ◌≤◌, Bool, true, false, not, nat_eq, cond, List, [], ◌∷◌, ◌++◌, length, take, drop, slice_get, Option, Some, None, is_some, option_to_list, refl, ap, sym, subst, ◌∙◌, append-nil, length-append, arith}
 use Rattle.std.specs.List.{filter, cons_option}
 use Rattle.std.specs.Map.{lookup}
 use Rattle.qls_enqmap.specs.declared.Held.{Held}

@@ -1,12 +1,12 @@
 -- What holds of the slots still holds after a record is put behind the others, gets another status or goes out.
-use Rattle.std.proofs.Common.{◌≡◌, ℕ, zero, suc, ◌+◌, ◌-◌, ◌<◌, ◌≤◌, Bool, true, false, not, ◌&&◌, cond, List, [], ◌∷◌, ◌++◌, length, take, drop, Option, Some, None, is_some, refl, ap, sym, subst, ◌∙◌, arith, length-append}
-use Rattle.std.specs.List.{filter, cons_option}
+use Rattle.std.proofs.Common.{◌≡◌, ℕ, zero, suc, ◌+◌, ◌<◌, ◌≤◌, Bool, true, false, List, [], ◌∷◌, ◌++◌, length, take, drop, Option, Some, None, is_some, refl, ap, sym, subst, ◌∙◌, arith, length-append}
+use Rattle.std.specs.List.{cons_option}
 use Rattle.std.proofs.lemmas.List.Elements.{filter_map-append}
 use Rattle.qls_enqmap.specs.declared.Held.{Held}
 use Rattle.qls_model.specs.declared.machine.Status.{Status}
 use Rattle.qls_enqmap.specs.Records.{AllBelow, RidsFrom, with_status, without}
 use Rattle.qls_enqmap.proofs.Rising.{files_status, files_without}
-use Rattle.qls_enqmap.specs.Slots.{Slots, held_in, occupied, none_of, first_of, last_of, last_file, HasRid, RisesFrom, RidsBelow, FilesRise, before, AreCounted, Gains, IsKept}
+use Rattle.qls_enqmap.specs.Slots.{Slots, held_in, occupied, none_of, first_of, last_of, last_file, HasRid, RisesFrom, RidsBelow, FilesRise, AreCounted, IsKept}
 use Rattle.qls_enqmap.specs.declared.blocks.Blocks.{Blocks}
 
 -- ---- files

@@ -1,10 +1,10 @@
 -- Slots by rising id: what a look-up finds, and what a change of one slot changes.
-use Rattle.std.proofs.Common.{◌≡◌, ℕ, zero, suc, ◌+◌, ◌<◌, ◌≤◌, Bool, true, false, not, ◌==◌, nat_eq, cond, List, [], ◌∷◌, ◌++◌, map, length, take, drop, slice_get, Option, Some, None, is_some, refl, ap, sym, subst, ◌∙◌, arith}
-use Rattle.std.specs.List.{filter, filter_map, find, cons_option}
+use Rattle.std.proofs.Common.{◌≡◌, ℕ, zero, suc, ◌+◌, ◌<◌, ◌≤◌, Bool, true, false, not, ◌==◌, nat_eq, cond, List, [], ◌∷◌, length, take, Option, Some, None, is_some, refl, ap, sym, subst, ◌∙◌, arith}
+use Rattle.std.specs.List.{cons_option}
 use Rattle.std.specs.Map.{lookup, lookup_key, set_value}
 use Rattle.qls_model.specs.declared.machine.Status.{Status}
 use Rattle.qls_enqmap.specs.declared.Held.{Held}
-use Rattle.qls_enqmap.specs.Records.{held_at, with_status_if, with_status, without}
+use Rattle.qls_enqmap.specs.Records.{held_at, with_status, without}
 use Rattle.qls_enqmap.specs.Slots.{Slots, held_in, occupied, none_of, HasRid, RisesFrom, FilesRise}
 
 -- ---- a slot of another id is passed over

@@ -1,12 +1,12 @@
 -- The slots after one was written.
-use Rattle.std.proofs.Common.{◌≡◌, ℕ, suc, ◌+◌, Bool, true, false, not, ◌==◌, nat_eq, cond, List, [], ◌∷◌, length, take, Option, Some, None, is_some, IfNone, IfSome, refl, ap, sym, subst, ◌∙◌, arith}
+use Rattle.std.proofs.Common.{◌≡◌, ℕ, ◌+◌, Bool, true, false, not, ◌==◌, nat_eq, cond, List, [], ◌∷◌, length, take, Option, Some, None, is_some, IfNone, IfSome, refl, ap, sym, subst, ◌∙◌, arith}
 use Rattle.std.specs.Map.{lookup, set_value}
 use Rattle.std.proofs.lemmas.Map.{length-set_value}
 use Rattle.std.proofs.lemmas.Map.Steps.{set_value_same}
 use Rattle.qls_model.specs.declared.machine.Status.{Status}
 use Rattle.qls_enqmap.specs.declared.Held.{Held}
 use Rattle.qls_enqmap.specs.Records.{held_at, with_status, without}
-use Rattle.qls_enqmap.specs.Slots.{Slots, held_in, occupied, none_of, restatus, HasRid, RisesFrom, before, IsSlotOf, Loses}
+use Rattle.qls_enqmap.specs.Slots.{Slots, held_in, occupied, none_of, restatus, RisesFrom, before, IsSlotOf, Loses}
 use Rattle.qls_enqmap.proofs.Blocking.{before_same, loses_slot}
 use Rattle.qls_enqmap.proofs.Rising.{flat, found, found_rid, emptied, status_set, status_none, rises_set, occupied_set, holes_set, fewer_set}
 

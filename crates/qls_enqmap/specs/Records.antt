@@ -1,5 +1,5 @@
 -- Held records by rising record id, and what each call does to them.
-use Rattle.std.specs.Prelude.{◌≡◌, ℕ, ◌+◌, ◌<◌, ◌≤◌, Bool, not, List, [], ◌∷◌, map, Option, Some, None, Result, Ok, Err, if◌then◌else◌, ◌==◌, min}
+use Rattle.std.specs.Prelude.{ℕ, ◌+◌, ◌<◌, ◌≤◌, not, List, [], ◌∷◌, map, Option, Some, None, Result, Ok, Err, if◌then◌else◌, ◌==◌, min}
 use Rattle.std.specs.List.{filter, find}
 use Rattle.qls_model.specs.declared.machine.Status.{Status}
 use Rattle.qls_model.specs.declared.machine.Status.TheVariants.{Ready, Coming, Going}

@@ -1,6 +1,6 @@
 -- Ids stay below one that comes later.
-use Rattle.std.proofs.Common.{◌≡◌, ℕ, ◌+◌, ◌<◌, ◌≤◌, List, [], ◌∷◌, ◌++◌, Option, Some, None, refl, ap, sym, subst, ◌∙◌, arith}
-use Rattle.std.specs.List.{filter_map, cons_option}
+use Rattle.std.proofs.Common.{◌≡◌, ℕ, ◌+◌, ◌<◌, ◌≤◌, List, [], ◌∷◌, Option, Some, None, arith}
+use Rattle.std.specs.List.{cons_option}
 use Rattle.qls_model.specs.Messages.{left_by, only}
 use Rattle.qls_model.specs.declared.machine.Message.{Message}
 use Rattle.qls_model.specs.declared.machine.Verdict.TheVariants as verdict

@@ -1,22 +1,21 @@
 -- The table of operations agrees with the held records, after each record of a queue.
-use Rattle.std.proofs.Common.{◌≡◌, ℕ, ◌+◌, ◌<◌, ◌≤◌, Bool, true, false, not, ◌||◌, ◌&&◌, ◌==◌, cond, List, [], ◌∷◌, ◌++◌, map, Option, Some, None, refl, ap, sym, subst, ◌∙◌, arith}
-use Rattle.std.specs.List.{filter, filter_map, cons_option, list_any}
-use Rattle.std.specs.Cmp.Lexicographic.{nat_list_eq_equiv}
+use Rattle.std.proofs.Common.{◌≡◌, ℕ, ◌+◌, ◌<◌, Bool, true, false, not, ◌||◌, ◌&&◌, ◌==◌, cond, List, [], ◌∷◌, ◌++◌, Option, Some, None, refl, ap, sym, ◌∙◌, arith}
+use Rattle.std.specs.List.{cons_option}
 use Rattle.std.proofs.lemmas.List.Folds.{list_any-append}
 use Rattle.std.proofs.lemmas.List.Elements.{filter_map-append}
 use Rattle.qls_model.specs.Bytes.{same}
 use Rattle.qls_model.specs.Machine.{is_ready}
-use Rattle.qls_model.specs.Messages.{left_by, only, status_of}
-use Rattle.qls_model.proofs.XidKeys.{same_true, same_self}
+use Rattle.qls_model.specs.Messages.{left_by, only}
+use Rattle.qls_model.proofs.XidKeys.{same_true}
 use Rattle.qls_model.specs.declared.machine.Status.{Status}
 use Rattle.qls_model.specs.declared.machine.Status.TheVariants.{Ready, Coming, Going}
-use Rattle.qls_model.specs.declared.machine.Verdict.TheVariants.{Commit, Abort, Doubt}
+use Rattle.qls_model.specs.declared.machine.Verdict.TheVariants.{Doubt}
 use Rattle.qls_enqmap.specs.declared.Held.{Held}
 use Rattle.qls_enqmap.specs.Records.{RidsFrom, held_at, with_status, without}
 use Rattle.qls_txnmap.specs.declared.Op.{Op}
 use Rattle.qls_txnmap.specs.declared.Op.TheVariants.{Put, Take}
 use Rattle.qls_txnmap.specs.Pending.{Table, ops_of, ops_with, ops_without}
-use Rattle.qls_replay.specs.Held.{message_of, held_as, left_held, ended_held}
+use Rattle.qls_replay.specs.Held.{message_of, held_as, ended_held}
 use Rattle.qls_replay.specs.Ops.{op_by_status, op_by, ops_in, same_op, has_op, verdict_if, Agrees}
 
 -- ---- same xids

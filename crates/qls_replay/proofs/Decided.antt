@@ -1,9 +1,8 @@
 -- What an unlock or a removal leaves, whether the record is there or not.
-use Rattle.std.proofs.Common.{◌≡◌, ℕ, List, [], ◌∷◌, Option, Some, None, Result, Ok, Err, IfOk, IfErr, refl, ap, sym, subst, ◌∙◌}
+use Rattle.std.proofs.Common.{◌≡◌, ℕ, List, [], ◌∷◌, Option, Some, None, Result, Ok, Err, IfOk, IfErr, refl, sym, ◌∙◌}
 use Rattle.qls_model.specs.declared.machine.Status.TheVariants.{Ready}
 use Rattle.qls_enqmap.specs.declared.Held.{Held}
 use Rattle.qls_enqmap.specs.declared.EnqFault.{EnqFault}
-use Rattle.qls_enqmap.specs.declared.EnqFault.TheVariants.{Unknown, Locked}
 use Rattle.qls_enqmap.specs.Records.{held_at, with_status, without, unlock_answer, removed}
 use Rattle.qls_enqmap.proofs.Rising.{status_none}
 use Rattle.qls_enqmap.proofs.Writes.{without_none}

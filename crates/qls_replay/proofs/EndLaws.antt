@@ -1,18 +1,16 @@
 -- Carrying out each operation of a transaction leaves what the end of the transaction leaves.
-use Rattle.std.proofs.Common.{◌≡◌, ℕ, zero, suc, ◌+◌, ◌<◌, ◌≤◌, Bool, true, false, not, ◌||◌, ◌==◌, cond, List, [], ◌∷◌, ◌++◌, map, Option, Some, None, take, refl, ap, sym, subst, ◌∙◌, arith}
-use Rattle.std.specs.List.{filter, filter_map, cons_option, list_any}
+use Rattle.std.proofs.Common.{◌≡◌, ℕ, ◌+◌, ◌<◌, ◌≤◌, Bool, true, false, not, ◌||◌, ◌==◌, cond, List, [], ◌∷◌, Option, Some, None, refl, ap, sym, ◌∙◌, arith}
+use Rattle.std.specs.List.{filter_map, cons_option}
 use Rattle.qls_model.specs.Bytes.{same}
 use Rattle.qls_model.specs.Messages.{left_by, only}
-use Rattle.qls_model.specs.declared.machine.Message.{Message}
 use Rattle.qls_model.specs.declared.machine.Status.{Status}
 use Rattle.qls_model.specs.declared.machine.Status.TheVariants.{Ready, Coming, Going}
-use Rattle.qls_model.specs.declared.machine.Verdict.{Verdict}
-use Rattle.qls_model.specs.declared.machine.Verdict.TheVariants.{Commit, Abort, Doubt}
+use Rattle.qls_model.specs.declared.machine.Verdict.TheVariants.{Doubt}
 use Rattle.qls_enqmap.specs.declared.Held.{Held}
 use Rattle.qls_enqmap.specs.Records.{RidsFrom, with_status, without}
 use Rattle.qls_txnmap.specs.declared.Op.{Op}
 use Rattle.qls_txnmap.specs.declared.Op.TheVariants.{Put, Take}
-use Rattle.qls_replay.specs.Held.{message_of, held_as, left_held, ended_held}
+use Rattle.qls_replay.specs.Held.{message_of, held_as, ended_held}
 use Rattle.qls_replay.specs.Ops.{op_by_status, op_by, ops_in, same_op, has_op, ended, ended_all, verdict_if}
 
 -- ---- one operation, on one record

@@ -1,9 +1,9 @@
 -- One record of a queue, step by step.
-use Rattle.std.proofs.Common.{◌≡◌, ℕ, ◌<◌, Bool, true, false, not, ◌&&◌, ◌==◌, cond, List, [], ◌∷◌, ◌++◌, map, length, Option, Some, None, Result, Ok, Err, IfOk, IfErr, refl, ap, sym, subst, ◌∙◌, arith}
-use Rattle.std.specs.List.{filter, filter_map, cons_option}
+use Rattle.std.proofs.Common.{◌≡◌, ℕ, ◌<◌, Bool, true, false, not, ◌&&◌, ◌==◌, cond, List, [], ◌∷◌, ◌++◌, length, Option, Some, None, Result, Ok, Err, IfOk, IfErr, refl, ap, sym, ◌∙◌, arith}
+use Rattle.std.specs.List.{filter_map, cons_option}
 use Rattle.std.specs.Result.{is_err}
 use Rattle.qls_model.specs.Machine.{is_ready}
-use Rattle.qls_model.specs.Messages.{left_by, only, status_of, after_coming, after_going}
+use Rattle.qls_model.specs.Messages.{left_by, after_coming, after_going}
 use Rattle.qls_model.specs.declared.machine.Message.{Message}
 use Rattle.qls_model.specs.declared.machine.Status.{Status}
 use Rattle.qls_model.specs.declared.machine.Status.TheVariants.{Ready, Coming, Going}

@@ -1,9 +1,9 @@
 -- What a take leaves of held records, by what is found at its target.
-use Rattle.std.proofs.Common.{◌≡◌, ℕ, ◌+◌, ◌<◌, ◌≤◌, Bool, true, false, not, ◌&&◌, ◌==◌, cond, List, [], ◌∷◌, ◌++◌, map, Option, Some, None, refl, ap, sym, subst, ◌∙◌, arith}
-use Rattle.std.specs.List.{filter, filter_map, cons_option}
+use Rattle.std.proofs.Common.{◌≡◌, ℕ, ◌+◌, ◌<◌, Bool, true, false, not, ◌&&◌, ◌==◌, cond, List, [], ◌∷◌, Option, Some, None, refl, ap, sym, ◌∙◌, arith}
+use Rattle.std.specs.List.{cons_option}
 use Rattle.qls_model.specs.Machine.{is_ready}
 use Rattle.qls_model.specs.declared.machine.Status.{Status}
-use Rattle.qls_model.specs.declared.machine.Status.TheVariants.{Ready, Coming, Going}
+use Rattle.qls_model.specs.declared.machine.Status.TheVariants.{Ready, Going}
 use Rattle.qls_enqmap.specs.declared.Held.{Held}
 use Rattle.qls_enqmap.specs.Records.{RidsFrom, held_at, with_status, without}
 use Rattle.qls_meaning.specs.Replay.{left_by_take, gone}

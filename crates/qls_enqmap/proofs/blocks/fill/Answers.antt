@@ -1,4 +1,4 @@
-use Rattle.std.proofs.Common.{◌≡◌, ◌<◌, ◌≤◌, length, arith}
+use Rattle.std.proofs.Common.{arith}
 use Rattle.qls_enqmap.proofs.Blocking.{counted_all}
 use Rattle.qls_enqmap.proofs.blocks.fill.Goals as goal
 

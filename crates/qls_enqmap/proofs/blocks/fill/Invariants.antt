@@ -1,4 +1,4 @@
-use Rattle.std.proofs.Common.{◌≡◌, ◌-◌, ◌+◌, ◌*◌, ◌<◌, ℕ, min, length, slice_index_or}
+use Rattle.std.proofs.Common.{◌≡◌, ◌-◌, ◌*◌, ◌<◌, ℕ, min, length, slice_index_or}
 use Rattle.qls_enqmap.proofs.blocks.fill.Given as goal
 
 abbrev pub invariant-loop-block : goal.invariant-loop-block

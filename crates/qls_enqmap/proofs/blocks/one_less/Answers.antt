@@ -1,4 +1,4 @@
-use Rattle.std.proofs.Common.{◌≡◌, ◌-◌, ◌/◌, get_or, arith}
+use Rattle.std.proofs.Common.{◌/◌, arith}
 use Rattle.qls_enqmap.proofs.Blocking.{counted_less, any_default}
 use Rattle.qls_enqmap.proofs.blocks.one_less.Goals as goal
 

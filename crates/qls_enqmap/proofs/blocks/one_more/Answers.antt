@@ -1,4 +1,4 @@
-use Rattle.std.proofs.Common.{◌≡◌, ◌+◌, ◌/◌, get_or, arith}
+use Rattle.std.proofs.Common.{◌/◌, arith}
 use Rattle.qls_enqmap.proofs.Blocking.{counted_more, count_small, any_default}
 use Rattle.qls_enqmap.proofs.blocks.one_more.Goals as goal
 

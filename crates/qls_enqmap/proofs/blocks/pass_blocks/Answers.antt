@@ -1,5 +1,5 @@
-use Rattle.std.proofs.Common.{◌≡◌, ◌<◌, ◌≤◌, ◌+◌, ◌*◌, ℕ, arith, length, refl, sym, ap, subst, ◌∙◌}
-use Rattle.qls_enqmap.specs.Slots.{Slots, before, AreCounted, IsCounted}
+use Rattle.std.proofs.Common.{◌≡◌, ◌+◌, ◌*◌, arith, sym, subst}
+use Rattle.qls_enqmap.specs.Slots.{before, IsCounted}
 use Rattle.qls_enqmap.proofs.Blocking.{place_within, at_same}
 use Rattle.qls_enqmap.proofs.blocks.pass_blocks.Goals as goal
 

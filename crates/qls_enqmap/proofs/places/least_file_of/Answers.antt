@@ -1,4 +1,4 @@
-use Rattle.std.proofs.Common.{◌≡◌, take, ◌+◌, refl, ap, ◌∙◌, arith}
+use Rattle.std.proofs.Common.{take, ◌+◌, refl, ap, ◌∙◌, arith}
 use Rattle.qls_enqmap.specs.Records.{lesser, least_file}
 use Rattle.qls_enqmap.specs.Slots.{held_in}
 use Rattle.qls_enqmap.proofs.Counted.{least_step}

@@ -1,4 +1,4 @@
-use Rattle.std.proofs.Common.{◌≡◌, ◌+◌, ◌<◌, length, refl, ap, ◌∙◌, sym, subst, arith}
+use Rattle.std.proofs.Common.{◌≡◌, ◌+◌, length, refl, ap, ◌∙◌, subst, arith}
 use Rattle.qls_enqmap.specs.Slots.{IsPlace, before}
 use Rattle.qls_enqmap.proofs.Counted.{within, next_count}
 use Rattle.qls_enqmap.proofs.places.pass_records.Goals as goal

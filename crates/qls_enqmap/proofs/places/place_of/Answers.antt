@@ -1,5 +1,5 @@
-use Rattle.std.proofs.Common.{◌≡◌, ◌+◌, ◌≤◌, ◌<◌, length, refl, ap, ◌∙◌, sym, subst, arith}
-use Rattle.qls_enqmap.specs.Slots.{IsPlace, before}
+use Rattle.std.proofs.Common.{subst, arith}
+use Rattle.qls_enqmap.specs.Slots.{IsPlace}
 use Rattle.qls_enqmap.proofs.Blocking.{place_within, all_before}
 use Rattle.qls_enqmap.proofs.Counted.{place_in_row}
 use Rattle.qls_enqmap.proofs.places.place_of.Goals as goal

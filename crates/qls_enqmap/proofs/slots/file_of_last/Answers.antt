@@ -1,4 +1,4 @@
-use Rattle.std.proofs.Common.{◌≡◌, ◌∙◌}
+use Rattle.std.proofs.Common.{◌∙◌}
 use Rattle.qls_enqmap.proofs.Ends.{file_of_last, no_file}
 use Rattle.qls_enqmap.proofs.slots.file_of_last.Goals as goal
 

@@ -1,4 +1,4 @@
-use Rattle.std.proofs.Common.{◌≡◌, ap, sym, ◌∙◌}
+use Rattle.std.proofs.Common.{ap, sym, ◌∙◌}
 use Rattle.qls_enqmap.proofs.Rising.{flat, found}
 use Rattle.qls_enqmap.proofs.slots.find.Goals as goal
 

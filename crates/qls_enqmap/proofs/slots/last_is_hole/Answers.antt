@@ -1,4 +1,4 @@
-use Rattle.std.proofs.Common.{◌≡◌, not, ap, ◌∙◌}
+use Rattle.std.proofs.Common.{not, ap, ◌∙◌}
 use Rattle.qls_enqmap.proofs.Ends.{flip, last_at}
 use Rattle.qls_enqmap.proofs.slots.last_is_hole.Goals as goal
 

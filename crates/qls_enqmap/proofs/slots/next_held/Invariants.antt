@@ -1,4 +1,4 @@
-use Rattle.std.proofs.Common.{◌≡◌, ◌≤◌, ◌-◌, ℕ, true, take, length}
+use Rattle.std.proofs.Common.{◌≡◌, ◌≤◌, ◌-◌, true, take, length}
 use Rattle.qls_enqmap.specs.Slots.{held_in, occupied, none_of}
 use Rattle.qls_enqmap.proofs.slots.next_held.Given as goal
 

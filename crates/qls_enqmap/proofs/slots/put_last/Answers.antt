@@ -1,4 +1,4 @@
-use Rattle.std.proofs.Common.{◌≡◌, nat_eq, Some, ◌∙◌}
+use Rattle.std.proofs.Common.{nat_eq, Some, ◌∙◌}
 use Rattle.indexmap.proofs.CallerLemmas.{insert_entry-new}
 use Rattle.qls_enqmap.proofs.Ends.{absent_above}
 use Rattle.qls_enqmap.proofs.slots.put_last.Goals as goal

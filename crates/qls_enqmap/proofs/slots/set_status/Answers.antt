@@ -1,5 +1,5 @@
-use Rattle.std.proofs.Common.{◌≡◌, ap, sym, ◌∙◌}
-use Rattle.qls_enqmap.proofs.Writes.{AfterStatus, status_written, no_status}
+use Rattle.std.proofs.Common.{ap}
+use Rattle.qls_enqmap.proofs.Writes.{status_written, no_status}
 use Rattle.qls_enqmap.proofs.slots.set_status.Goals as goal
 
 pub returns-in-Some : goal.returns-in-Some

@@ -1,4 +1,4 @@
-use Rattle.std.proofs.Common.{◌≡◌, Some, ap, sym, ◌∙◌}
+use Rattle.std.proofs.Common.{Some, ap, sym, ◌∙◌}
 use Rattle.qls_enqmap.proofs.Rising.{flat, found, key_found}
 use Rattle.qls_enqmap.proofs.slots.slot_of.Goals as goal
 

@@ -1,7 +1,7 @@
-use Rattle.std.proofs.Common.{◌≡◌, ◌≤◌, ◌<◌, ◌^◌, ℕ, true, arith, subst}
+use Rattle.std.proofs.Common.{◌≡◌, ◌≤◌, ℕ, true, arith, subst}
 use lib.Dec.{leb}
 use Rattle.qls_enqmap.proofs.Kept.{files_more}
-use Rattle.qls_enqmap.specs.Slots.{held_in, last_file}
+use Rattle.qls_enqmap.specs.Slots.{held_in}
 use Rattle.qls_enqmap.proofs.slots.still_rising.Goals as goal
 
 le_by : (a b : ℕ) → leb a b ≡ true → a ≤ b

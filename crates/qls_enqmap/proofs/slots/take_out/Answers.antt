@@ -1,4 +1,4 @@
-use Rattle.std.proofs.Common.{◌≡◌, ap, sym, ◌∙◌, subst}
+use Rattle.std.proofs.Common.{ap, sym, subst}
 use Rattle.qls_enqmap.proofs.Writes.{AfterTake, taken_out, none_taken}
 use Rattle.qls_enqmap.proofs.slots.take_out.Goals as goal
 

@@ -1,5 +1,4 @@
 use Rattle.std.proofs.Common.{◌≡◌, ◌∙◌, sym, Bool, true, false, not, refl, arith}
-use Rattle.qls_enqmap.specs.Slots.{occupied, last_of}
 use Rattle.qls_enqmap.proofs.Ends.{Trims, trims}
 use Rattle.qls_enqmap.proofs.slots.trim_end.Goals as goal
 

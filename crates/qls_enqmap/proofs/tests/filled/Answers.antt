@@ -1,4 +1,4 @@
-use Rattle.std.proofs.Common.{◌≡◌, ◌+◌, subst, sym, arith}
+use Rattle.std.proofs.Common.{◌+◌, subst, sym, arith}
 use Rattle.qls_enqmap.specs.Records.{AllBelow}
 use Rattle.qls_enqmap.proofs.Kept.{below_more}
 use Rattle.qls_enqmap.proofs.tests.filled.Goals as goal

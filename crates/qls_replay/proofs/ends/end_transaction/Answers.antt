@@ -1,4 +1,4 @@
-use Rattle.std.proofs.Common.{◌≡◌, [], sym, ap, ◌∙◌}
+use Rattle.std.proofs.Common.{[], ap, ◌∙◌}
 use Rattle.qls_txnmap.specs.Pending.{ops_of}
 use Rattle.qls_replay.specs.Ops.{has_op, ended_all}
 use Rattle.qls_replay.proofs.Decided.{handed_is, handed_none}

@@ -1,9 +1,7 @@
-use Rattle.std.proofs.Common.{◌≡◌, ◌==◌, ◌&&◌, ◌≤◌, ℕ, List, Bool, true, false, cond, Option, Some, None, IsSome, is_some, IfOk, refl, ap, sym, subst, ◌∙◌, arith}
+use Rattle.std.proofs.Common.{◌≡◌, ◌==◌, ◌&&◌, ℕ, List, Bool, true, false, cond, Option, Some, None, is_some, IfOk, refl, ap, sym, subst, ◌∙◌, arith}
 use Rattle.std.specs.Option.{option_map}
 use Rattle.std.specs.Map.{lookup}
 use Rattle.std.specs.BTreeMap.{is_at}
-use Rattle.std.specs.Ordering.{nat_cmp}
-use Rattle.std.specs.Cmp.Lexicographic.{slice_cmp}
 use Rattle.qls_model.proofs.XidKeys.{xid_cmp_is, xid_cmp}
 use Rattle.qls_record.specs.Record.{Record}
 use Rattle.qls_decide.specs.declared.ListState.{ListState}

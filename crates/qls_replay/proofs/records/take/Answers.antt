@@ -1,7 +1,7 @@
-use Rattle.std.proofs.Common.{◌≡◌, ◌==◌, true, false, length, Some, IfOk, Result, Ok, Err, sym, ap, subst, ◌∙◌}
-use Rattle.qls_meaning.specs.Replay.{xid_in, left_by_take}
+use Rattle.std.proofs.Common.{◌≡◌, ◌==◌, length, IfOk, sym, ap, subst, ◌∙◌}
+use Rattle.qls_meaning.specs.Replay.{left_by_take}
 use Rattle.qls_replay.specs.Held.{left_held}
-use Rattle.qls_replay.proofs.Steps.{xid_some, xid_none}
+use Rattle.qls_replay.proofs.Steps.{xid_some}
 use Rattle.qls_replay.proofs.records.take.Goals as goal
 
 pub returns-then-is_empty-clause-sound : goal.returns-then-is_empty-clause-sound

@@ -1,7 +1,7 @@
-use Rattle.std.proofs.Common.{◌≡◌, Some, true, false, not, sym, ap, subst, ◌∙◌}
+use Rattle.std.proofs.Common.{◌≡◌, Some, not, sym, ap, subst, ◌∙◌}
 use Rattle.qls_model.specs.declared.machine.Status.TheVariants.{Ready, Going}
 use Rattle.qls_enqmap.specs.Records.{with_status}
-use Rattle.qls_replay.specs.Held.{may_take, IsSound}
+use Rattle.qls_replay.specs.Held.{IsSound}
 use Rattle.qls_replay.proofs.Decided.{unlocked}
 use Rattle.qls_replay.proofs.Takes.{take_going, take_stays, found, status_back}
 use Rattle.qls_replay.proofs.Agreeing.{agrees_going, is_ready_then}

@@ -1,4 +1,4 @@
-use Rattle.std.proofs.Common.{◌≡◌, None, true, sym, ap, ◌∙◌}
+use Rattle.std.proofs.Common.{None, sym, ap, ◌∙◌}
 use Rattle.qls_replay.specs.Held.{may_take}
 use Rattle.qls_replay.proofs.Decided.{gone}
 use Rattle.qls_replay.proofs.Takes.{take_gone, take_stays, found}

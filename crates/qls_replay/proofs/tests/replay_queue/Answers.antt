@@ -1,4 +1,4 @@
-use Rattle.std.proofs.Common.{◌≡◌, ◌+◌, subst, sym}
+use Rattle.std.proofs.Common.{◌+◌, subst, sym}
 use Rattle.qls_enqmap.specs.Records.{AllBelow}
 use Rattle.qls_meaning.specs.Reading.{read_of}
 use Rattle.qls_replay.proofs.Above.{below_next}

@@ -1,4 +1,3 @@
-use Rattle.std.proofs.Common.{length}
 use Rattle.qls_enqmap.specs.Records.{AllBelow}
 use Rattle.qls_replay.proofs.tests.replay_queue.Given as goal
 

@@ -1,4 +1,4 @@
-use Rattle.std.proofs.Common.{◌≡◌, Some, [], ◌∷◌, ◌++◌, refl, ap, sym, ◌∙◌}
+use Rattle.std.proofs.Common.{Some, [], ◌∷◌, ◌++◌, ap, sym, ◌∙◌}
 use Rattle.qls_txnmap.specs.Pending.{all_of, is_any}
 use Rattle.qls_txnmap.proofs.Tables.{as_bytes, ops_added, none_empty_added}
 use Rattle.qls_txnmap.proofs.table.add_first.Goals as goal

@@ -1,9 +1,9 @@
-use Rattle.std.proofs.Common.{◌≡◌, ℕ, true, List, Some, None, [], ◌∷◌, ◌++◌, refl, ap, sym, ◌∙◌}
+use Rattle.std.proofs.Common.{◌≡◌, ℕ, true, List, [], ◌∷◌, ◌++◌, ap, sym, ◌∙◌}
 use Rattle.std.specs.Map.{lookup, set_value}
 use Rattle.std.proofs.lemmas.Map.Steps.{set_value_same}
 use Rattle.qls_model.specs.Bytes.{same}
 use Rattle.qls_model.proofs.XidKeys.{xid_eq}
-use Rattle.qls_txnmap.specs.Pending.{all_of, is_any, ops_of, ops_with, NoneEmpty}
+use Rattle.qls_txnmap.specs.Pending.{all_of, is_any, ops_of, ops_with}
 use Rattle.qls_txnmap.proofs.Tables.{written_to, looked_up_as, ops_added, none_empty_added, any_more, if_ok_then, if_err_then, either_then}
 use Rattle.qls_txnmap.proofs.table.add_op.Goals as goal
 

@@ -1,4 +1,4 @@
-use Rattle.std.proofs.Common.{◌≡◌, slice_get, sym, ap, ◌∙◌}
+use Rattle.std.proofs.Common.{slice_get, sym, ap, ◌∙◌}
 use Rattle.qls_enqmap.proofs.Counted.{at_place}
 use Rattle.qls_enqmap.proofs.map.EnqMap.at.Goals as goal
 

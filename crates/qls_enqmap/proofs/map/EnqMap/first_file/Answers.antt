@@ -1,4 +1,4 @@
-use Rattle.std.proofs.Common.{◌≡◌, ap, ◌∙◌}
+use Rattle.std.proofs.Common.{ap, ◌∙◌}
 use Rattle.qls_enqmap.specs.Records.{least_file}
 use Rattle.qls_enqmap.proofs.Counted.{least_at}
 use Rattle.qls_enqmap.proofs.map.EnqMap.first_file.Goals as goal

@@ -1,4 +1,4 @@
-use Rattle.std.proofs.Common.{◌≡◌, ◌<◌, ◌≤◌, ◌++◌, ◌∷◌, [], ap, sym, subst, ◌∙◌, refl, arith, length, Some, length-append}
+use Rattle.std.proofs.Common.{◌≡◌, ◌++◌, ◌∷◌, [], ap, sym, subst, ◌∙◌, refl, arith, length, Some, length-append}
 use Rattle.qls_enqmap.specs.Records.{AllBelow, RidsRise}
 use Rattle.qls_enqmap.specs.Slots.{held_in, Gains}
 use Rattle.qls_enqmap.proofs.Kept.{rids_rise, rids_below, kept_more, held_append, few}

@@ -1,7 +1,6 @@
-use Rattle.std.proofs.Common.{◌≡◌, ap, sym, subst, ◌∙◌, length, arith}
-use Rattle.qls_model.specs.declared.machine.Status.TheVariants.{Ready, Going}
-use Rattle.qls_enqmap.specs.Records.{with_status, RidsRise}
-use Rattle.qls_enqmap.specs.Slots.{held_in, FilesRise}
+use Rattle.std.proofs.Common.{subst, arith}
+use Rattle.qls_model.specs.declared.machine.Status.TheVariants.{Going}
+use Rattle.qls_enqmap.specs.Records.{RidsRise}
 use Rattle.qls_enqmap.proofs.Kept.{rids_rise, kept_status, same_count, files_set}
 use Rattle.qls_enqmap.proofs.Blocking.{counts_same}
 use Rattle.qls_enqmap.proofs.map.EnqMap.lock.Goals as goal

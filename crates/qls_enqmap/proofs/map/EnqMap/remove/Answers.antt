@@ -1,4 +1,4 @@
-use Rattle.std.proofs.Common.{◌≡◌, ◌-◌, ◌+◌, suc, ap, sym, subst, ◌∙◌, length, refl, arith}
+use Rattle.std.proofs.Common.{◌-◌, subst, arith}
 use Rattle.qls_enqmap.specs.Records.{RidsRise}
 use Rattle.qls_enqmap.proofs.Kept.{rids_rise, kept_less}
 use Rattle.qls_enqmap.proofs.Blocking.{slot_within}

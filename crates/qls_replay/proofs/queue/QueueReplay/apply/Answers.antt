@@ -1,4 +1,4 @@
-use Rattle.std.proofs.Common.{◌≡◌, Option, Result, Ok, Err, IfOk, List, sym, ap, subst, ◌∙◌}
+use Rattle.std.proofs.Common.{◌≡◌, Option, Result, Ok, Err, IfOk, sym, ap, ◌∙◌}
 use Rattle.std.specs.List.{filter_map}
 use Rattle.qls_model.specs.Messages.{left_by, only}
 use Rattle.qls_model.specs.declared.machine.Message.{Message}

@@ -1,4 +1,4 @@
-use Rattle.std.proofs.Common.{◌≡◌, None, ap, ◌∙◌}
+use Rattle.std.proofs.Common.{None, ap, ◌∙◌}
 use Rattle.qls_txnmap.specs.Pending.{ops_of, ops_without, if_any}
 use Rattle.qls_txnmap.proofs.Tables.{as_bytes, looked_up_as, handed, ops_removed, none_empty_removed}
 use Rattle.qls_txnmap.proofs.table.TxnMap.finish.Goals as goal

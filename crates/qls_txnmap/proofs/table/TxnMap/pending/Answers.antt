@@ -1,4 +1,4 @@
-use Rattle.std.proofs.Common.{◌≡◌, ℕ, List, Result, Ok, Err, IfOk, ap, ◌∙◌}
+use Rattle.std.proofs.Common.{◌≡◌, ℕ, List, ap, ◌∙◌}
 use Rattle.qls_model.specs.Bytes.{is_listed}
 use Rattle.qls_txnmap.specs.Pending.{is_pending}
 use Rattle.qls_txnmap.proofs.Tables.{pending_keys, if_ok_then_of}
