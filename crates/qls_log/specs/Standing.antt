@@ -1,0 +1,87 @@
+-- How a log stands on a disk.
+use Rattle.std.specs.Prelude.{◌≡◌, ℕ, ◌+◌, ◌-◌, ◌*◌, ◌≤◌, true, false, List, [], ◌∷◌, length, take, Option, Some, None}
+use Rattle.std.specs.List.{AllByRecursion}
+use Rattle.qls_site.specs.Disk.{Disk, FileState, file_of, bytes_at}
+use Rattle.qls_filehdr.specs.Header.{header_spelling}
+use Rattle.qls_log.specs.Writing.{AreInUse}
+use Rattle.qls_meaning.specs.Journals.{Headed}
+use Rattle.qls_meaning.specs.Reading.{Placed, begin_place, end_from, journal_reading}
+use Rattle.qls_meaning.specs.History.{FreeArea}
+use Rattle.qls_meaning.specs.Orderly.{journal_on}
+use Rattle.qls_pool.specs.Files.{HeadedFile, LinkedThere, RestsThere, IdsDiffer, is_among}
+use Rattle.qls_laws.specs.Readings.{Stand}
+use Rattle.qls_log.specs.declared.opening.Opening.{Opening}
+use Rattle.qls_log.specs.Logs.{LogState, capacity_in}
+
+-- the files of the journal on the disk, by number
+abbrev pub files_on : Opening → Disk → List Headed
+files_on o d = (journal_on d o.kind o.name).files
+
+-- the file on the disk has this header, and a data area of so many bytes
+pub record IsThatFile (capacity : ℕ) (h : HeadedFile) (f : Headed) : Type 0 where
+  pub id : f.id ≡ h.id
+  pub header : f.header ≡ h.header
+  pub area : length f.area ≡ capacity
+
+-- one for one
+abbrev pub AreThoseFiles : ℕ → List HeadedFile → List Headed → Type 0
+AreThoseFiles capacity [] [] = Unit {0}
+AreThoseFiles capacity [] (f ∷ fs) = ⊥
+AreThoseFiles capacity (h ∷ hs) [] = ⊥
+AreThoseFiles capacity (h ∷ hs) (f ∷ fs) = IsThatFile capacity h f × AreThoseFiles capacity hs fs
+
+-- no two of the files have the same id
+abbrev pub AreApart : List HeadedFile → Type 0
+AreApart [] = Unit {0}
+AreApart (h ∷ hs) = AllByRecursion (λ g. (g.id ≡ h.id) → ⊥) hs × AreApart hs
+
+-- these are the journal's files, in use with their headers stable
+pub record HasFiles (o : Opening) (hs : List HeadedFile) (d : Disk) : Type 0 where
+  pub differ : IdsDiffer d
+  pub apart : AreApart hs
+  pub linked : AllByRecursion (λ h. LinkedThere h d) hs
+  pub headers : AllByRecursion (λ h. take 4096 (bytes_at h.id d) ≡ header_spelling h.header) hs
+  pub files : AreThoseFiles (capacity_in o) hs (files_on o d)
+
+-- ---- the end
+
+-- where the next batch goes, in the joined data areas
+abbrev pub end_of : LogState → ℕ
+end_of l = (length l.files - 1) * capacity_in l.opening + l.used
+
+-- records stand from the beginning on, one behind the other, up to this place
+pub record ReachesTo (fs : List Headed) (end : ℕ) : Type 0 where
+  pub begins : begin_place true fs ≡ 0
+  pub records : List Placed
+  pub stand : Stand fs 0 records
+  pub ends : end_from 0 records ≡ end
+
+-- what is not pending for this log's next flush is stable
+abbrev pub RestsBut : List ℕ → List HeadedFile → Disk → Type 0
+RestsBut unsynced hs d = AllByRecursion (λ h. is_among h.id unsynced ≡ false → RestsThere h d) hs
+
+-- ---- what is free
+
+-- each full file is free from its end on, and the newest one behind what is written
+abbrev pub free_from : ℕ → ℕ → List HeadedFile → List FreeArea
+free_from capacity used [] = []
+free_from capacity used (h ∷ []) = record { id = h.id; from = 4096 + used } ∷ []
+free_from capacity used (h ∷ g ∷ hs) = record { id = h.id; from = 4096 + capacity } ∷ free_from capacity used (g ∷ hs)
+
+abbrev pub areas : LogState → List FreeArea
+areas l = free_from (capacity_in l.opening) l.used l.files
+
+-- the pending writes of the file end before this place, or at it
+abbrev pub EndBefore : ℕ → Option FileState → Type 0
+EndBefore from None = ⊥
+EndBefore from (Some f) = AllByRecursion (λ w. w.at + length w.bytes ≤ from) f.pending
+
+-- ---- the log
+
+-- The log's files are those of its journal, and the records of its batches stand in them up to where the next one goes
+pub record LogThere (l : LogState) (d : Disk) : Type 0 where
+  pub waiting : AreInUse l.unsynced d
+  pub ends : AllByRecursion (λ a. EndBefore a.from (file_of a.id d)) (areas l)
+  pub there : HasFiles l.opening l.files d
+  pub rests : RestsBut l.unsynced l.files d
+  pub reaches : ReachesTo (files_on l.opening d) (end_of l)
