@@ -8,11 +8,11 @@ use Rattle.qls_site.specs.Disk.{Disk, FileState, Write, file_of}
 use Rattle.qls_site.specs.Content.{Moment, Content}
 use Rattle.qls_filehdr.specs.declared.FileHeader.{FileHeader}
 use Rattle.qls_filehdr.specs.Header.{header_of}
-use Rattle.qls_meaning.specs.History.{last_of}
+use Rattle.qls_meaning.specs.History.{History, FreeArea, last_of, now, next}
 use Rattle.qls_meaning.specs.Journals.{is_in_use}
 use Rattle.qls_meaning.specs.Spent.{is_pool_place}
 use Rattle.qls_pool.specs.Files.{IdsDiffer}
-use Rattle.qls_meaning.specs.Orderly.{IsNewFile, WasLeast, NamesPool, GoesHome}
+use Rattle.qls_meaning.specs.Orderly.{IsNewFile, IsTaken, WasLeast, NamesPool, GoesHome, journal_on}
 
 -- it had the least id of its pool, and has a legal header that is stable and names that pool, with nothing pending
 pub record IsPutInUse (m : Moment) (f g : FileState) (header : FileHeader) : Type 0 where
@@ -78,3 +78,36 @@ abbrev pub Orderly : {X E : Type 0} → (Disk → Type 0) → Result X E → Opt
 Orderly P result (Some old) (Some new) = IdsDiffer old.now.disk → P old.now.disk → StepsBy result old new
 Orderly P result (Some old) None = Unit {0}
 Orderly P result None new = Unit {0}
+
+-- ---- which files come into use, over the moments of a call
+
+-- of what is orderly the part on files that are created and come into use
+abbrev pub TakesFile : List FreeArea → History → Option FileState → FileState → Type 0
+TakesFile areas h None g = IsNewFile (now h) g.place g
+TakesFile areas h (Some f) g = is_in_use f.place ≡ false → is_in_use g.place ≡ true → (header : FileHeader) × IsTaken areas h f g header
+
+abbrev pub IsTakingStep : List FreeArea → History → Moment → Type 0
+IsTakingStep areas h m = AllByRecursion (λ g. TakesFile areas h (file_of g.id (now h).disk) g) m.disk
+
+abbrev pub TakesInOrder : List FreeArea → History → List Moment → Type 0
+TakesInOrder areas h [] = Unit {0}
+TakesInOrder areas h (m ∷ ms) = IsTakingStep areas h m × TakesInOrder areas (next h m) ms
+
+-- the first file of a journal that had none
+pub record IsFirstFile (d : Disk) (g : FileState) (header : FileHeader) : Type 0 where
+  pub legal : header_of (take 4096 g.stable) ≡ Ok header
+  pub epoch : header.epoch ≡ 1
+  pub number : header.number ≡ 1
+  pub new : (journal_on d header.kind header.name).files ≡ []
+
+abbrev pub TakesFirst : Moment → Option FileState → FileState → Type 0
+TakesFirst m None g = Unit {0}
+TakesFirst m (Some f) g = is_in_use f.place ≡ false → is_in_use g.place ≡ true → (header : FileHeader) × IsFirstFile m.disk g header
+
+-- each file that comes into use is the first of its journal
+abbrev pub IsFirstTaken : Moment → Moment → Type 0
+IsFirstTaken m n = AllByRecursion (λ g. TakesFirst m (file_of g.id m.disk) g) n.disk
+
+abbrev pub AreFirstTaken : Moment → List Moment → Type 0
+AreFirstTaken m [] = Unit {0}
+AreFirstTaken m (n ∷ ns) = IsFirstTaken m n × AreFirstTaken n ns
