@@ -185,7 +185,7 @@ pub files-linked : (o : Opening) (id : ℕ) (f : FileState) (c : FileState → F
     → (headed (full_file (c f))).header.kind ≡ o.kind → (headed (full_file (c f))).header.name ≡ o.name
     → Below (headed (full_file (c f))).header.number (files_on o d)
     → files_on o (change_file id c d) ≡ files_on o d ++ headed (full_file (c f)) ∷ []
-files-linked o id f c d s out use kind name below =
+files-linked o id f c d s out useful kind name below =
     let g : Headed = headed (full_file (c f)) in
     let test = is_of o.kind o.name in
     let xs = mine o.kind o.name s.before in
@@ -194,7 +194,7 @@ files-linked o id f c d s out use kind name below =
     ap (λ e. mine o.kind o.name e) s.is ∙ ap (filter test) (heads-append s.before (f ∷ s.after) ∙ ap (λ (x : List Headed). heads s.before ++ x) (heads-out f s.after out))
     ∙ filter-append test (heads s.before) (heads s.after) in
     let new : mine o.kind o.name (change_file id c d) ≡ xs ++ g ∷ ys =
-    ap (λ e. mine o.kind o.name e) (change_split id f c d s) ∙ ap (filter test) (heads-append s.before (c f ∷ s.after) ∙ ap (λ (x : List Headed). heads s.before ++ x) (heads-in (c f) s.after use))
+    ap (λ e. mine o.kind o.name e) (change_split id f c d s) ∙ ap (filter test) (heads-append s.before (c f ∷ s.after) ∙ ap (λ (x : List Headed). heads s.before ++ x) (heads-in (c f) s.after useful))
     ∙ filter-append test (heads s.before) (g ∷ heads s.after) ∙ ap (λ b. xs ++ cond b (g ∷ ys) ys) (is_of-own o.kind o.name g kind name) in
     ap by_number new
     ∙ by_number-insert g xs ys (subst (Below g.header.number) old (by_number-back (λ h. h.header.number < g.header.number) (mine o.kind o.name d) below))

@@ -28,27 +28,27 @@ use Rattle.qls_log.specs.Taking.{TakesFile}
 abbrev pub Both : (Disk → Type 0) → Disk → Type 0
 Both P d = IdsDiffer d × P d
 
-pub failed : {X Y E F : Type 0} (P : Disk → Type 0) (e : E) (r : Result Y F) (a b : Option Content) → IsErr r → Orderly {X} {E} P (Err e) a b → Orderly P r a b
-failed P e r None b is h = tt
-failed P e r (Some x) None is h = tt
-failed P e r (Some x) (Some y) is h = λ differ p. by_err r x y is (h differ p)
+pub failed : (X : Type 0) {Y E F : Type 0} (P : Disk → Type 0) (e : E) (r : Result Y F) (a b : Option Content) → IsErr r → Orderly {X = X} {E = E} P (Err e) a b → Orderly P r a b
+failed X P e r None b is h = tt
+failed X P e r (Some x) None is h = tt
+failed X P e r (Some x) (Some y) is h = λ differ p. by_err r x y is (h differ p)
 
 -- the same steps, whatever Ok carries
-pub ok_again : {X Y E F : Type 0} (P : Disk → Type 0) (v : X) (w : Y) (a b : Option Content) → Orderly {X} {E} P (Ok v) a b → Orderly {Y} {F} P (Ok w) a b
-ok_again P v w None b h = tt
-ok_again P v w (Some x) None h = tt
-ok_again P v w (Some x) (Some y) h = h
+pub ok_again : (E F : Type 0) {X Y : Type 0} (P : Disk → Type 0) (v : X) (w : Y) (a b : Option Content) → Orderly {X = X} {E = E} P (Ok v) a b → Orderly {X = Y} {E = F} P (Ok w) a b
+ok_again E F P v w None b h = tt
+ok_again E F P v w (Some x) None h = tt
+ok_again E F P v w (Some x) (Some y) h = h
 
 then_steps : {Y F : Type 0} (r : Result Y F) (x y z : Content) → EndsPoolSteps x y → StepsBy r y z → StepsBy r x z
 then_steps (Ok v) x y z h k = ends_then x y z h k
 then_steps (Err e) x y z h k = ends_adds x y z h k
 
-pub then_orderly : {X E Y F : Type 0} (P Q : Disk → Type 0) (R : Content → Content → Type 0) (v : X) (r : Result Y F) (a b c : Option Content) → Tells R a b → Orderly {X} {E} P (Ok v) a b
+pub then_orderly : (E : Type 0) {X Y F : Type 0} (P Q : Disk → Type 0) (R : Content → Content → Type 0) (v : X) (r : Result Y F) (a b c : Option Content) → Tells R a b → Orderly {X = X} {E = E} P (Ok v) a b
     → Carries (Both P) IdsDiffer a b → Carries (Both P) Q a b → Orderly Q r b c → Orderly P r a c
-then_orderly P Q R v r None b c t h i q k = tt
-then_orderly P Q R v r (Some x) b None t h i q k = tt
-then_orderly P Q R v r (Some x) None (Some z) t h i q k = absurd t
-then_orderly P Q R v r (Some x) (Some y) (Some z) t h i q k = λ differ p. then_steps r x y z (h differ p) (k (i (differ, p)) (q (differ, p)))
+then_orderly E P Q R v r None b c t h i q k = tt
+then_orderly E P Q R v r (Some x) b None t h i q k = tt
+then_orderly E P Q R v r (Some x) None (Some z) t h i q k = absurd t
+then_orderly E P Q R v r (Some x) (Some y) (Some z) t h i q k = λ differ p. then_steps r x y z (h differ p) (k (i (differ, p)) (q (differ, p)))
 
 pub carries_more : (P Q : Disk → Type 0) (a b : Option Content) → Carries P Q a b → Carries (Both P) Q a b
 carries_more P Q None b h = tt
@@ -64,26 +64,26 @@ carries_then P Q S R (Some x) (Some y) (Some z) t h k = λ p. k (h p)
 -- ---- a file is taken
 
 pub two_orderly : {Y F : Type 0} (home : PoolId) (pool : PoolState) (blank : BlankFile) (r : Result Y F) (a b c : Option Content)
-    → Tells (TakesBlank home pool (Ok blank)) a b → Orderly {BlankFile} {TakeFault} (IsPoolOf pool []) (Ok blank) a b
+    → Tells (TakesBlank home pool (Ok blank)) a b → Orderly {X = BlankFile} {E = TakeFault} (IsPoolOf pool []) (Ok blank) a b
     → Carries (IsWholePool pool) IdsDiffer a b → Carries (IsPoolOf pool []) (BlankThere blank) a b
     → Orderly (BlankThere blank) r b c → Orderly (IsPoolOf pool []) r a c
-two_orderly home pool blank r a b c t o i q k = then_orderly (IsPoolOf pool []) (BlankThere blank) (TakesBlank home pool (Ok blank)) blank r a b c t o i (carries_more (IsPoolOf pool []) (BlankThere blank) a b q) k
+two_orderly home pool blank r a b c t o i q k = then_orderly TakeFault (IsPoolOf pool []) (BlankThere blank) (TakesBlank home pool (Ok blank)) blank r a b c t o i (carries_more (IsPoolOf pool []) (BlankThere blank) a b q) k
 
 pub three_orderly : {Y F : Type 0} (home : PoolId) (pool : PoolState) (blank : BlankFile) (header : FileHeader) (headed : HeadedFile) (r : Result Y F) (a b c d : Option Content)
     → header.part ≡ home.part → header.kib ≡ home.kib → headed ≡ record { id = blank.id; header = header }
-    → Tells (TakesBlank home pool (Ok blank)) a b → Orderly {BlankFile} {TakeFault} (IsPoolOf pool []) (Ok blank) a b
+    → Tells (TakesBlank home pool (Ok blank)) a b → Orderly {X = BlankFile} {E = TakeFault} (IsPoolOf pool []) (Ok blank) a b
     → Carries (IsWholePool pool) IdsDiffer a b → Carries (IsWholePool pool) (IsLeastOnDisk home.part home.kib blank.id) a b → Carries (IsPoolOf pool []) (BlankThere blank) a b
-    → Tells (Heads blank.id header (Ok headed)) b c → Orderly {HeadedFile} {SiteError} (BlankThere blank) (Ok headed) b c
+    → Tells (Heads blank.id header (Ok headed)) b c → Orderly {X = HeadedFile} {E = SiteError} (BlankThere blank) (Ok headed) b c
     → Carries IdsDiffer IdsDiffer b c → Carries (IsLeastOnDisk header.part header.kib blank.id) (IsLeastOnDisk header.part header.kib blank.id) b c
     → Orderly (IsLeastOnDisk headed.header.part headed.header.kib headed.id) r c d → Orderly (IsPoolOf pool []) r a d
 three_orderly home pool blank header headed r a b c d part kib is t o i l q u p j m k =
     let P = IsPoolOf pool [] in
     let Q = IsLeastOnDisk header.part header.kib blank.id in
-    let first : Orderly {HeadedFile} {SiteError} P (Ok headed) a c = two_orderly home pool blank (Ok headed) a b c t o i q p in
+    let first : Orderly {X = HeadedFile} {E = SiteError} P (Ok headed) a c = two_orderly {F = SiteError} home pool blank (Ok headed) a b c t o i q p in
     let least : Carries (Both P) Q a b = subst (λ n. Carries (Both P) (IsLeastOnDisk n header.kib blank.id) a b) (sym part) (subst (λ n. Carries (Both P) (IsLeastOnDisk home.part n blank.id) a b) (sym kib) l) in
     let both : Tells (λ x y. Unit {0}) a c = any a b c t u in
     let last : Orderly Q r c d = subst (λ (h : HeadedFile). Orderly (IsLeastOnDisk h.header.part h.header.kib h.id) r c d) is k in
-    then_orderly P Q (λ x y. Unit {0}) headed r a c d both first
+    then_orderly SiteError P Q (λ x y. Unit {0}) headed r a c d both first
     (carries_then (Both P) IdsDiffer IdsDiffer (TakesBlank home pool (Ok blank)) a b c t i j)
     (carries_then (Both P) Q Q (TakesBlank home pool (Ok blank)) a b c t least m) last
   where
@@ -122,11 +122,11 @@ takes_told home pool left blank header headed linked a b c d is same hands t u l
     (subst (λ (h : HeadedFile). Tells (Heads blank.id header (Ok h)) b c) is u)
     (subst (λ (h : HeadedFile). Tells (Acts (put_in_use h.id)) c d) is l))
 
-pub one_sync : {X Y E : Type 0} (R : Content → Content → Type 0) (v : X) (w : Y) (a b : Option Content) (m n o p : ℕ) → Tells R a b → n ≡ m → SyncsOnce {X} b (Ok v) n o → p ≡ o → Counts {Y} {E} a (Ok w) 1 m p
-one_sync R v w None None m n o p t i s j = (omega (arith, i, s.0, j), omega (arith, i, s.1, j))
-one_sync R v w None (Some y) m n o p t i s j = absurd t
-one_sync R v w (Some x) None m n o p t i s j = absurd t
-one_sync R v w (Some x) (Some y) m n o p t i s j = omega (arith, i, s, j)
+pub one_sync : (E : Type 0) {X Y : Type 0} (R : Content → Content → Type 0) (v : X) (w : Y) (a b : Option Content) (m n o p : ℕ) → Tells R a b → n ≡ m → SyncsOnce {X = X} b (Ok v) n o → p ≡ o → Counts {X = Y} {E = E} a (Ok w) 1 m p
+one_sync E R v w None None m n o p t i s j = (omega (arith, i, s.0, j), omega (arith, i, s.1, j))
+one_sync E R v w None (Some y) m n o p t i s j = absurd t
+one_sync E R v w (Some x) None m n o p t i s j = absurd t
+one_sync E R v w (Some x) (Some y) m n o p t i s j = omega (arith, i, s, j)
 
 -- ---- steps of files in use
 
@@ -158,10 +158,10 @@ meets InUse w h = tt
 meets (Empty part kib) w h = absurd (cc)
 
 wrote : (m : Moment) (f : FileState) (v : Write) → is_in_use f.place ≡ true → PoolFileStep m f (record f { pending = f.pending ++ v ∷ [] })
-wrote m f v use = record {
+wrote m f v useful = record {
   taken = λ a b. absurd (not_both (is_in_use f.place) a b);
   returned = λ a b. absurd (not_both (is_in_use f.place) b a);
-  written = λ w e. meets f.place w use;
+  written = λ w e. meets f.place w useful;
 }
 
 step_change : (own : ℕ) (c : FileState → FileState) → KeepsId c → (m : Moment) → Differ (ids_of (full m.disk)) → ((f : FileState) → file_of own m.disk ≡ Some f → PoolFileStep m f (c f))
@@ -185,5 +185,5 @@ pub sync_step : (id : ℕ) (m : Moment) → IdsDiffer m.disk → IsPoolStep m (o
 sync_step id m differ = step_change id (λ f. record f { stable = all_written f.pending f.stable; pending = [] }) (λ f. refl) m differ (λ f e. synced m f)
 
 pub write_step : (id at : ℕ) (bytes : List ℕ) (m : Moment) → IdsDiffer m.disk → ((f : FileState) → file_of id m.disk ≡ Some f → is_in_use f.place ≡ true) → IsPoolStep m (on_disk (write_at id at bytes) m)
-write_step id at bytes m differ use =
-    step_change id (λ f. record f { pending = f.pending ++ (record { at = at; bytes = bytes }) ∷ [] }) (λ f. refl) m differ (λ f e. wrote m f (record { at = at; bytes = bytes }) (use f e))
+write_step id at bytes m differ useful =
+    step_change id (λ f. record f { pending = f.pending ++ (record { at = at; bytes = bytes }) ∷ [] }) (λ f. refl) m differ (λ f e. wrote m f (record { at = at; bytes = bytes }) (useful f e))

@@ -23,7 +23,7 @@ use Rattle.qls_log.specs.declared.opening.Opening.{Opening}
 use Rattle.qls_log.specs.Logs.{LogState, capacity_in, AreHeaded, ids, serials}
 use Rattle.qls_log.specs.Taking.{TakesFiles}
 use Rattle.qls_log.specs.Writing.{WritesAll, from_written}
-use Rattle.qls_log.specs.Standing.{files_on, areas}
+use Rattle.qls_log.specs.Standing.{IsUnmarkedBehind, areas}
 
 -- ---- a new log
 
@@ -82,11 +82,11 @@ pub record StartsClean (l : LogState) (a b : Content) : Type 0 where
   pub clean : IsClean (areas l) a.now.disk
   pub unmarked : AllUnmarked a.now (moments_since a b)
 
--- the records of the batch follow those that were read before, fillers included, and the log is clean again
+-- the records of the batch follow those that were read before, fillers included, and what lies behind is unmarked
 pub record ReadsMore (rs : List Record) (old new : LogState) (a b : Content) : Type 0 where
   pub reading : map (λ r. r.what) (journal_reading (journal_on b.now.disk old.opening.kind old.opening.name))
       ≡ map (λ r. r.what) (journal_reading (journal_on a.now.disk old.opening.kind old.opening.name)) ++ with_fillers rs
-  pub clean : IsClean (areas new) b.now.disk
+  pub unmarked : IsUnmarkedBehind new b.now.disk
 
 abbrev pub ReadsBatch : List Record → LogState → LogState → Content → Content → Type 0
 ReadsBatch rs old new a b = StartsClean old a b → ReadsMore rs old new a b

@@ -1,7 +1,8 @@
 -- How a log stands on a disk.
-use Rattle.std.specs.Prelude.{◌≡◌, ℕ, ◌+◌, ◌-◌, ◌*◌, ◌≤◌, true, false, List, [], ◌∷◌, length, take, Option, Some, None}
+use Rattle.std.specs.Prelude.{◌≡◌, ℕ, ◌+◌, ◌-◌, ◌*◌, true, false, List, [], ◌∷◌, length, take}
 use Rattle.std.specs.List.{AllByRecursion}
-use Rattle.qls_site.specs.Disk.{Disk, FileState, file_of, bytes_at}
+use Rattle.qls_site.specs.Disk.{Disk, bytes_at}
+use Rattle.qls_laws.specs.Areas.{IsUnmarkedFrom}
 use Rattle.qls_filehdr.specs.Header.{header_spelling}
 use Rattle.qls_log.specs.Writing.{AreInUse}
 use Rattle.qls_meaning.specs.Journals.{Headed}
@@ -71,17 +72,20 @@ free_from capacity used (h ∷ g ∷ hs) = record { id = h.id; from = 4096 + cap
 abbrev pub areas : LogState → List FreeArea
 areas l = free_from (capacity_in l.opening) l.used l.files
 
--- the pending writes of the file end before this place, or at it
-abbrev pub EndBefore : ℕ → Option FileState → Type 0
-EndBefore from None = ⊥
-EndBefore from (Some f) = AllByRecursion (λ w. w.at + length w.bytes ≤ from) f.pending
-
 -- ---- the log
 
 -- The log's files are those of its journal, and the records of its batches stand in them up to where the next one goes
 pub record LogThere (l : LogState) (d : Disk) : Type 0 where
   pub waiting : AreInUse l.unsynced d
-  pub ends : AllByRecursion (λ a. EndBefore a.from (file_of a.id d)) (areas l)
   pub there : HasFiles l.opening l.files d
   pub rests : RestsBut l.unsynced l.files d
   pub reaches : ReachesTo (files_on l.opening d) (end_of l)
+
+-- the serial of the newest file stands at byte 8 of no unit behind what is written, pending writes applied
+abbrev pub LastIsUnmarked : ℕ → List Headed → Type 0
+LastIsUnmarked used [] = Unit {0}
+LastIsUnmarked used (f ∷ []) = IsUnmarkedFrom f.header.serial used f.area
+LastIsUnmarked used (f ∷ g ∷ fs) = LastIsUnmarked used (g ∷ fs)
+
+abbrev pub IsUnmarkedBehind : LogState → Disk → Type 0
+IsUnmarkedBehind l d = LastIsUnmarked l.used (files_on l.opening d)

@@ -12,7 +12,7 @@ ghost use Rattle.qls_log.specs.Logs.{IsLegalOpening, capacity_in};
 ghost use Rattle.qls_log.specs.Faults.{LogCauses, SiteCauses, Counts};
 ghost use Rattle.qls_log.specs.Taking.{TakesFiles, DrawsEach, MeetsEnd};
 ghost use Rattle.qls_log.specs.Spots.{spot_of};
-ghost use Rattle.qls_log.specs.Standing.{LogThere, files_on, areas};
+ghost use Rattle.qls_log.specs.Standing.{LogThere, IsUnmarkedBehind, files_on, areas};
 ghost use Rattle.qls_log.specs.Appending.{IsNew, FollowRids, HasAppended, TakesAndWrites, ReadsBatch, ReadsNone, LeavesOthers, IsQuietBut, SyncsAll, SeesTheSame, ReadsInImages};
 
 use crate::fault::LogError;
@@ -174,7 +174,7 @@ impl Log {
         ensures told { Tells (SyncsAll self.old.unsynced result) (S.told site.old) (S.told site.new) }
         ensures there { IfOk result (λ _. IfSome (S.told site.new) (OnDisk (LogThere self.new))) }
         ensures reading { Tells SeesTheSame (S.told site.old) (S.told site.new) }
-        ensures clean { IfOk result (λ _. Carries (IsClean (areas self.old)) (IsClean (areas self.new)) (S.told site.old) (S.told site.new)) }
+        ensures clean { IfOk result (λ _. Carries (IsUnmarkedBehind self.old) (IsClean (areas self.new)) (S.told site.old) (S.told site.new)) }
         ensures pool { (pool : PoolState) (out : List ℕ) → Carries (IsPoolOf pool out) (IsPoolOf pool out) (S.told site.old) (S.told site.new) }
         ensures quiet { IfOk result (λ _. Carries (IsQuietBut self.old.unsynced) IsQuiet (S.told site.old) (S.told site.new)) }
         ensures images { IfOk result (λ _. Carries (IsQuietBut self.old.unsynced) (ReadsInImages self.new) (S.told site.old) (S.told site.new)) }

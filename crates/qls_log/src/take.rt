@@ -1,5 +1,5 @@
 // The files that a batch needs, taken one after another.
-ghost use Rattle.std.specs.Prelude.{◌≡◌, ◌<◌, ◌^◌, ◌+◌, ◌⊎◌, [], IfOk, IfSome, IsTrue, Err, true, length};
+ghost use Rattle.std.specs.Prelude.{◌≡◌, ◌<◌, ◌^◌, ◌+◌, ◌⊎◌, [], IfOk, IfSome, IsTrue, Err, Some, slice_get, true, length};
 ghost use Rattle.std.specs.List.{AllByRecursion};
 ghost use Rattle.qls_filehdr.specs.Limits.{is_counter, is_legal_header};
 ghost use Rattle.qls_site.specs.Content.{Tells};
@@ -55,6 +55,14 @@ fn take_file<S: Site, N: Serials>(
     Ok(linked)
 }
 
+/// What is planned for one of the files.
+fn fresh_at(fresh: &[FreshFile], at: usize) -> FreshFile
+    requires there { at < length fresh.now }
+    ensures exact { slice_get fresh.now at ≡ Some result }
+{
+    fresh[at]
+}
+
 /// Takes a file for each of `fresh`, in order; the first has the number behind `newest`.
 pub(crate) fn take_files<S: Site, N: Serials>(
     alloc: Global,
@@ -85,11 +93,11 @@ pub(crate) fn take_files<S: Site, N: Serials>(
 {
     let mut files = Vec::with_capacity(alloc, fresh.len())?;
     let mut number = newest;
-    for next in fresh {
+    for at in 0..fresh.len() {
         if number == LAST_NUMBER {
             return Err(LogError::Spent);
         }
-        let file = take_file(site, pool, serials, opening, number + 1, *next)?;
+        let file = take_file(site, pool, serials, opening, number + 1, fresh_at(fresh, at))?;
         number += 1;
         files.push(file)?;
     }

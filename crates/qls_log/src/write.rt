@@ -28,7 +28,7 @@ pub(crate) fn write_parts<S: Site>(
     requires there { IfSome (S.told site.old) (HaveRoom capacity ids.now) }
     requires from { (from % 4096 ≡ 0) × (from < capacity) }
     requires capacity { (capacity % 4096 ≡ 0) × (capacity < 2 ^ 40) }
-    requires blocks { length bytes.now % 4096 ≡ 0 }
+    requires blocks { (0 < length bytes.now) × (length bytes.now % 4096 ≡ 0) }
     requires each { (i : ℕ) → i < length ids.now → capacity * i < from + length bytes.now }
     ensures told { Tells (WritesParts capacity ids.now from bytes.now result) (S.told site.old) (S.told site.new) }
     ensures cause { Causes (S.faults site.old) (S.faults site.new) result }
