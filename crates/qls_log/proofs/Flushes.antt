@@ -23,7 +23,7 @@ use Rattle.qls_pool.proofs.Calls.{by_err}
 use Rattle.qls_log.specs.declared.opening.Opening.{Opening}
 use Rattle.qls_log.specs.Logs.{LogState, capacity_in}
 use Rattle.qls_log.specs.Writing.{AreInUse}
-use Rattle.qls_log.specs.Standing.{LogThere, HasFiles, RestsBut, files_on, AreThoseFiles, ReachesTo, end_of}
+use Rattle.qls_log.specs.Standing.{LogThere, HasFiles, RestsBut, files_on, AreThoseFiles, ReachesTo, end_of, LastIsUnmarked, IsUnmarkedBehind}
 use Rattle.qls_log.specs.Appending.{SeesTheSame, IsQuietBut, ReadsInImages}
 use Rattle.qls_log.proofs.Splits.{full-sync}
 use Rattle.qls_log.proofs.Steps.{sync_step, step_same}
@@ -270,3 +270,9 @@ told_there l x None None t h = tt
 told_there l x None (Some z) t h = absurd t
 told_there l x (Some y) None t h = absurd t
 told_there l x (Some y) (Some z) t h = subst (LogThere (flushed l)) (sym (ap (λ (c : Content). c.now.disk) t ∙ disk_of l.unsynced y)) (there_synced l y.now.disk h)
+
+pub told_behind : (l : LogState) (ids : List ℕ) (r : Result (Unit {0}) SiteError) (a b : Option Content) → Tells (Syncs ids r) a b → Carries (IsUnmarkedBehind l) (IsUnmarkedBehind (flushed l)) a b
+told_behind l ids r None b t = tt
+told_behind l ids r (Some x) None t = tt
+told_behind l ids r (Some x) (Some y) t = λ h.
+    subst (λ (i : Image). LastIsUnmarked l.used (journal (map headed (in_use i)) l.opening.kind l.opening.name).files) (sym (same_seen ids x y (synced_some ids r x y t)).files) h

@@ -1,5 +1,5 @@
 -- The journal's files, as more of them are taken.
-use Rattle.std.proofs.Common.{◌≡◌, ℕ, zero, suc, ◌+◌, ◌-◌, ◌*◌, ◌<◌, ◌≤◌, Bool, true, false, ◌==◌, List, [], ◌∷◌, ◌++◌, map, length, take, drop, Option, Some, None, IfSome, IsTrue, refl, sym, ap, ◌∙◌, subst, arith, append_assoc, append-nil}
+use Rattle.std.proofs.Common.{◌≡◌, ℕ, zero, suc, ◌+◌, ◌-◌, ◌*◌, ◌<◌, ◌≤◌, Bool, true, false, ◌==◌, ◌||◌, List, [], ◌∷◌, ◌++◌, map, length, take, drop, Option, Some, None, IfSome, IsTrue, refl, sym, ap, ◌∙◌, subst, arith, append_assoc, append-nil}
 use Rattle.std.proofs.lemmas.Bool.Decides.{nat_tests}
 use Rattle.std.specs.List.{AllByRecursion}
 use Rattle.qls_model.specs.declared.machine.PoolId.{PoolId}
@@ -14,11 +14,11 @@ use Rattle.qls_meaning.specs.History.{last_of, AllUnmarked, IsUnmarked}
 use Rattle.qls_laws.proofs.HistoryLaws.{AllUnmarked-within}
 use Rattle.qls_blocks.specs.declared.plan.FreshFile.{FreshFile}
 use Rattle.qls_pool.specs.Pools.{PoolState, least_id, first_or}
-use Rattle.qls_pool.specs.Files.{BlankFile, HeadedFile, IsLinked, IsBlank, IsAtRest, LinkedThere, RestsThere, BlankThere, IsPoolOf, IsWholePool, IdsDiffer}
+use Rattle.qls_pool.specs.Files.{BlankFile, HeadedFile, IsLinked, IsBlank, IsAtRest, LinkedThere, RestsThere, BlankThere, IsPoolOf, IsWholePool, IdsDiffer, is_among}
 use Rattle.qls_pool.specs.Taking.{Obtains}
 use Rattle.qls_pool.proofs.Taken.{lacks_next, blank_there}
 use Rattle.qls_log.specs.declared.opening.Opening.{Opening}
-use Rattle.qls_log.specs.Logs.{capacity_in, header_for, AreHeaded, NumberedFrom}
+use Rattle.qls_log.specs.Logs.{capacity_in, header_for, AreHeaded, NumberedFrom, ids}
 use Rattle.qls_log.specs.Taking.{TakesFile, TakesFiles}
 use Rattle.qls_log.specs.Standing.{files_on, HasFiles, AreThoseFiles, IsThatFile, AreApart}
 use Rattle.qls_log.proofs.Splits.{Below}
@@ -183,9 +183,6 @@ last_unmarked : (f : Headed) (fs : List Headed) → IsUnmarked f → LastUnmarke
 last_unmarked f [] u v = u
 last_unmarked f (g ∷ fs) u v = v
 
-those_back : (cap : ℕ) (h : HeadedFile) (file : Headed) → IsThatFile cap h file → IsThatFile cap h file
-those_back cap h file is = is
-
 pub gained_all : (o : Opening) (pool left : PoolState) (hs taken : List HeadedFile) (fs : List FreshFile) (newest n : ℕ) (a b : Content) → TakesFiles o.home pool left taken a b
     → AreHeaded o newest fs taken → AllByRecursion (λ h. IsTrue (is_legal_header h.header)) taken → IsWholePool pool a.now.disk → NumberedFrom n hs newest → Resting o hs a.now.disk → GainedAll o hs taken newest left a b
 gained_all o pool left hs [] fs newest n a b t headed legal w numbers r = record {
@@ -235,3 +232,29 @@ gained_all o pool left hs (h ∷ taken) (f ∷ fs) newest n a b t headed legal w
 
     one_is : (o : Opening) (hs : List HeadedFile) (h : HeadedFile) (a mid : Content) (one : Gained o hs h a mid) → AreThoseFiles (capacity_in o) hs (files_on o a.now.disk) → IsThatFile (capacity_in o) h one.file
     one_is o hs h a mid one s = those_last (capacity_in o) hs (files_on o a.now.disk) h one.file s (subst (AreThoseFiles (capacity_in o) (hs ++ h ∷ [])) one.files one.resting.files)
+
+-- ---- what stays
+
+or_false : (a b : Bool) → (a || b) ≡ false → (a ≡ false) × (b ≡ false)
+or_false true b e = absurd (cc)
+or_false false b e = (refl, e)
+
+turned : (m n : ℕ) → (m == n) ≡ false → (n == m) ≡ false
+turned m n e = grind (arith, nat_tests, e)
+
+pub others_all : (o : Opening) (pool left : PoolState) (taken : List HeadedFile) (fs : List FreshFile) (newest : ℕ) (a b : Content) → TakesFiles o.home pool left taken a b
+    → AreHeaded o newest fs taken → AllByRecursion (λ h. IsTrue (is_legal_header h.header)) taken → (id : ℕ) → is_among id (ids taken) ≡ false → file_of id b.now.disk ≡ file_of id a.now.disk
+others_all o pool left [] fs newest a b t headed legal id e = ap (λ (c : Content). file_of id c.now.disk) t.1
+others_all o pool left (h ∷ taken) [] newest a b t headed legal id e = absurd headed
+others_all o pool left (h ∷ taken) (f ∷ fs) newest a b t headed legal id e =
+    let both = or_false (h.id == id) (is_among id (ids taken)) e in
+    others_all o t.0 left taken fs (newest + 1) t.1 b t.3 headed.1 legal.1 id both.1
+    ∙ others_after o.home pool t.0 h a t.1 t.2 legal.0 (ap (λ (x : FileHeader). x.part) headed.0) (ap (λ (x : FileHeader). x.kib) headed.0) id (turned h.id id both.0)
+
+pub answered_all : (o : Opening) (pool left : PoolState) (taken : List HeadedFile) (fs : List FreshFile) (newest : ℕ) (a b : Content) → TakesFiles o.home pool left taken a b
+    → AreHeaded o newest fs taken → AllByRecursion (λ h. IsTrue (is_legal_header h.header)) taken → b.now.answered ≡ a.now.answered
+answered_all o pool left [] fs newest a b t headed legal = ap (λ (c : Content). c.now.answered) t.1
+answered_all o pool left (h ∷ taken) [] newest a b t headed legal = absurd headed
+answered_all o pool left (h ∷ taken) (f ∷ fs) newest a b t headed legal =
+    answered_all o t.0 left taken fs (newest + 1) t.1 b t.3 headed.1 legal.1
+    ∙ answered_after o.home pool t.0 h a t.1 t.2 legal.0 (ap (λ (x : FileHeader). x.part) headed.0) (ap (λ (x : FileHeader). x.kib) headed.0)

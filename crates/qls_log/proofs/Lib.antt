@@ -5,3 +5,5 @@ pub mod Takes
 pub mod Chains
 pub mod Flushes
 pub mod Gains
+pub mod News
+pub mod Streams

@@ -12,7 +12,7 @@ use Rattle.qls_site.specs.Content.{Content, moments_since}
 use Rattle.qls_filehdr.specs.declared.JournalKind.{JournalKind}
 use Rattle.qls_filehdr.specs.declared.FileHeader.{FileHeader}
 use Rattle.qls_meaning.specs.Reading.{journal_reading}
-use Rattle.qls_meaning.specs.History.{IsClean, AllUnmarked}
+use Rattle.qls_meaning.specs.History.{AllUnmarked}
 use Rattle.qls_meaning.specs.Orderly.{journal_on}
 use Rattle.qls_blocks.specs.Batching.{with_fillers, last_rid, length_of, block_length}
 use Rattle.qls_blocks.specs.Plans.{plan_of}
@@ -23,7 +23,7 @@ use Rattle.qls_log.specs.declared.opening.Opening.{Opening}
 use Rattle.qls_log.specs.Logs.{LogState, capacity_in, AreHeaded, ids, serials}
 use Rattle.qls_log.specs.Taking.{TakesFiles}
 use Rattle.qls_log.specs.Writing.{WritesAll, from_written}
-use Rattle.qls_log.specs.Standing.{IsUnmarkedBehind, areas}
+use Rattle.qls_log.specs.Standing.{IsUnmarkedBehind}
 
 -- ---- a new log
 
@@ -77,24 +77,24 @@ pub record TakesAndWrites (rs : List Record) (old new : LogState) (pool left : P
 
 -- ---- what is read
 
--- the premises: each file that came into use was unmarked, and the log was clean
+-- the premises: each file that came into use was unmarked, and so was what lies behind the log's end
 pub record StartsClean (l : LogState) (a b : Content) : Type 0 where
-  pub clean : IsClean (areas l) a.now.disk
+  pub behind : IsUnmarkedBehind l a.now.disk
   pub unmarked : AllUnmarked a.now (moments_since a b)
 
 -- the records of the batch follow those that were read before, fillers included, and what lies behind is unmarked
 pub record ReadsMore (rs : List Record) (old new : LogState) (a b : Content) : Type 0 where
   pub reading : map (λ r. r.what) (journal_reading (journal_on b.now.disk old.opening.kind old.opening.name))
       ≡ map (λ r. r.what) (journal_reading (journal_on a.now.disk old.opening.kind old.opening.name)) ++ with_fillers rs
-  pub unmarked : IsUnmarkedBehind new b.now.disk
+  pub behind : IsUnmarkedBehind new b.now.disk
 
 abbrev pub ReadsBatch : List Record → LogState → LogState → Content → Content → Type 0
 ReadsBatch rs old new a b = StartsClean old a b → ReadsMore rs old new a b
 
--- nothing is read of a new log, and it is clean
+-- nothing is read of a new log, and its data area is unmarked
 pub record ReadsNothing (l : LogState) (b : Content) : Type 0 where
   pub reading : journal_reading (journal_on b.now.disk l.opening.kind l.opening.name) ≡ []
-  pub clean : IsClean (areas l) b.now.disk
+  pub behind : IsUnmarkedBehind l b.now.disk
 
 abbrev pub ReadsNone : LogState → Content → Content → Type 0
 ReadsNone l a b = AllUnmarked a.now (moments_since a b) → ReadsNothing l b

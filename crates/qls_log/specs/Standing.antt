@@ -7,7 +7,6 @@ use Rattle.qls_filehdr.specs.Header.{header_spelling}
 use Rattle.qls_log.specs.Writing.{AreInUse}
 use Rattle.qls_meaning.specs.Journals.{Headed}
 use Rattle.qls_meaning.specs.Reading.{Placed, begin_place, end_from, journal_reading}
-use Rattle.qls_meaning.specs.History.{FreeArea}
 use Rattle.qls_meaning.specs.Orderly.{journal_on}
 use Rattle.qls_pool.specs.Files.{HeadedFile, LinkedThere, RestsThere, IdsDiffer, is_among}
 use Rattle.qls_laws.specs.Readings.{Stand}
@@ -60,17 +59,6 @@ pub record ReachesTo (fs : List Headed) (end : ℕ) : Type 0 where
 -- what is not pending for this log's next flush is stable
 abbrev pub RestsBut : List ℕ → List HeadedFile → Disk → Type 0
 RestsBut unsynced hs d = AllByRecursion (λ h. is_among h.id unsynced ≡ false → RestsThere h d) hs
-
--- ---- what is free
-
--- each full file is free from its end on, and the newest one behind what is written
-abbrev pub free_from : ℕ → ℕ → List HeadedFile → List FreeArea
-free_from capacity used [] = []
-free_from capacity used (h ∷ []) = record { id = h.id; from = 4096 + used } ∷ []
-free_from capacity used (h ∷ g ∷ hs) = record { id = h.id; from = 4096 + capacity } ∷ free_from capacity used (g ∷ hs)
-
-abbrev pub areas : LogState → List FreeArea
-areas l = free_from (capacity_in l.opening) l.used l.files
 
 -- ---- the log
 

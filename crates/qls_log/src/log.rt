@@ -2,7 +2,6 @@
 ghost use Rattle.std.specs.Prelude.{◌≡◌, ◌⊎◌, ◌<◌, ◌^◌, [], ℕ, List, false, is_err, IfOk, IfSome, Err, length, map};
 ghost use Rattle.qls_site.specs.Content.{Tells};
 ghost use Rattle.qls_site.specs.Disk.{IsQuiet};
-ghost use Rattle.qls_meaning.specs.History.{IsClean};
 ghost use Rattle.qls_pool.specs.Pools.{PoolState, IsSpent};
 ghost use Rattle.qls_pool.specs.Files.{HeadedFile, IsPoolOf, IsWholePool, OnDisk, Carries};
 ghost use Rattle.qls_pool.specs.Discipline.{Orderly};
@@ -12,7 +11,7 @@ ghost use Rattle.qls_log.specs.Logs.{IsLegalOpening, capacity_in};
 ghost use Rattle.qls_log.specs.Faults.{LogCauses, SiteCauses, Counts};
 ghost use Rattle.qls_log.specs.Taking.{TakesFiles, DrawsEach, MeetsEnd};
 ghost use Rattle.qls_log.specs.Spots.{spot_of};
-ghost use Rattle.qls_log.specs.Standing.{LogThere, IsUnmarkedBehind, files_on, areas};
+ghost use Rattle.qls_log.specs.Standing.{LogThere, IsUnmarkedBehind, files_on};
 ghost use Rattle.qls_log.specs.Appending.{IsNew, FollowRids, HasAppended, TakesAndWrites, ReadsBatch, ReadsNone, LeavesOthers, IsQuietBut, SyncsAll, SeesTheSame, ReadsInImages};
 
 use crate::fault::LogError;
@@ -81,7 +80,7 @@ impl Log {
         ensures pool { IfOk result (λ _. IfSome (S.told site.new) (OnDisk (IsWholePool pool.new))) }
         ensures reading { IfOk result (λ log. Tells (ReadsNone log) (S.told site.old) (S.told site.new)) }
         ensures others { IfOk result (λ log. Tells (LeavesOthers log.files) (S.told site.old) (S.told site.new)) }
-        ensures spent { result ≡ Err LogError.Spent → IsSpent home pool.old }
+        ensures spent { result ≡ Err LogError.Spent → IsSpent home pool.new }
         ensures at_end { IsSpent home pool.old → (result ≡ Err LogError.Spent) ⊎ (result ≡ Err LogError.Memory) }
         ensures cause { LogCauses (S.faults site.old) (S.faults site.new) (N.faults serials.old) (N.faults serials.new) result }
         ensures syncs { Counts (S.told site.old) result 1 (S.syncs site.old) (S.syncs site.new) }
@@ -174,7 +173,7 @@ impl Log {
         ensures told { Tells (SyncsAll self.old.unsynced result) (S.told site.old) (S.told site.new) }
         ensures there { IfOk result (λ _. IfSome (S.told site.new) (OnDisk (LogThere self.new))) }
         ensures reading { Tells SeesTheSame (S.told site.old) (S.told site.new) }
-        ensures clean { IfOk result (λ _. Carries (IsUnmarkedBehind self.old) (IsClean (areas self.new)) (S.told site.old) (S.told site.new)) }
+        ensures behind { IfOk result (λ _. Carries (IsUnmarkedBehind self.old) (IsUnmarkedBehind self.new) (S.told site.old) (S.told site.new)) }
         ensures pool { (pool : PoolState) (out : List ℕ) → Carries (IsPoolOf pool out) (IsPoolOf pool out) (S.told site.old) (S.told site.new) }
         ensures quiet { IfOk result (λ _. Carries (IsQuietBut self.old.unsynced) IsQuiet (S.told site.old) (S.told site.new)) }
         ensures images { IfOk result (λ _. Carries (IsQuietBut self.old.unsynced) (ReadsInImages self.new) (S.told site.old) (S.told site.new)) }

@@ -4,9 +4,9 @@ use Rattle.qls_blocks.specs.Parts.{Syncs, HasFiles}
 use Rattle.qls_pool.specs.Files.{OnDisk, Carries}
 use Rattle.qls_log.specs.declared.fault.LogError.{LogError}
 use Rattle.qls_log.specs.Logs.{LogState}
-use Rattle.qls_log.specs.Standing.{LogThere}
+use Rattle.qls_log.specs.Standing.{LogThere, IsUnmarkedBehind}
 use Rattle.qls_log.specs.Appending.{IsQuietBut, ReadsInImages}
-use Rattle.qls_log.proofs.Flushes.{there_are, waiting_of, told_same, told_pool, told_quiet, told_images, told_there, told_orderly_ok, told_orderly_err}
+use Rattle.qls_log.proofs.Flushes.{there_are, waiting_of, told_same, told_pool, told_quiet, told_images, told_there, told_behind, told_orderly_ok, told_orderly_err}
 use Rattle.qls_log.proofs.log.Log.flush.Goals as goal
 
 pub sync_parts-requires : goal.sync_parts-requires
@@ -37,8 +37,10 @@ returns-clause-there g c =
 pub returns-clause-reading : goal.returns-clause-reading
 returns-clause-reading g c = told_same c.self.inside.unsynced (Ok c.in_ok-sync_parts.field-0) _ _ c.in_ok-sync_parts.ensures.told
 
-pub returns-clause-clean : goal.returns-clause-clean
-returns-clause-clean g c = ?
+pub returns-clause-behind : goal.returns-clause-behind
+returns-clause-behind g c =
+    subst (λ (l : LogState). Carries (IsUnmarkedBehind c.args.self.now) (IsUnmarkedBehind l) (g.S.Site.told c.args.site.now) (g.S.Site.told c.sync_parts.new.site)) (sym (returns-clause-log g c))
+    (told_behind c.args.self.now c.self.inside.unsynced (Ok c.in_ok-sync_parts.field-0) _ _ c.in_ok-sync_parts.ensures.told)
 
 pub returns-clause-pool : goal.returns-clause-pool
 returns-clause-pool g c = λ pool out. told_pool c.self.inside.unsynced (Ok c.in_ok-sync_parts.field-0) pool out _ _ c.in_ok-sync_parts.ensures.told
