@@ -23,7 +23,7 @@ use Rattle.qls_pool.proofs.Calls.{by_err}
 use Rattle.qls_log.specs.declared.opening.Opening.{Opening}
 use Rattle.qls_log.specs.Logs.{LogState, capacity_in}
 use Rattle.qls_log.specs.Writing.{AreInUse}
-use Rattle.qls_log.specs.Standing.{LogThere, HasFiles, RestsBut, files_on, AreThoseFiles, ReachesTo, end_of, LastIsUnmarked, IsUnmarkedBehind}
+use Rattle.qls_log.specs.Standing.{LogThere, HasFiles, RestsBut, files_on, AreThoseFiles, LastIsUnmarked, IsUnmarkedBehind}
 use Rattle.qls_log.specs.Appending.{SeesTheSame, IsQuietBut, ReadsInImages}
 use Rattle.qls_log.proofs.Splits.{full-sync}
 use Rattle.qls_log.proofs.Steps.{sync_step, step_same}
@@ -262,7 +262,6 @@ there_synced l d t =
         files = subst (AreThoseFiles (capacity_in l.opening) l.files) (sym files) t.there.files;
       };
       rests = all_but [] l.files e rest;
-      reaches = subst (λ (fs : List Headed). ReachesTo fs (end_of l)) (sym files) t.reaches;
     }
 
 pub told_there : (l : LogState) (x : Unit {0}) (a b : Option Content) → Tells (Syncs l.unsynced (Ok x)) a b → IfSome a (OnDisk (LogThere l)) → IfSome b (OnDisk (LogThere (flushed l)))

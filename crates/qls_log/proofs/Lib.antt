@@ -7,3 +7,8 @@ pub mod Flushes
 pub mod Gains
 pub mod News
 pub mod Streams
+pub mod Laid
+pub mod Sizes
+pub mod Fits
+pub mod Appends
+pub mod Appended

@@ -19,7 +19,7 @@ use Rattle.qls_pool.specs.Files.{HeadedFile, IsWholePool, OnDisk, is_among}
 use Rattle.qls_log.specs.declared.opening.Opening.{Opening}
 use Rattle.qls_log.specs.Logs.{LogState, capacity_in, AreHeaded, ids}
 use Rattle.qls_log.specs.Taking.{TakesFiles, MeetsEnd}
-use Rattle.qls_log.specs.Standing.{files_on, AreThoseFiles, IsThatFile, LogThere, ReachesTo, end_of, IsUnmarkedBehind, LastIsUnmarked}
+use Rattle.qls_log.specs.Standing.{files_on, AreThoseFiles, IsThatFile, LogThere, IsUnmarkedBehind, LastIsUnmarked}
 use Rattle.qls_log.specs.Appending.{IsNew, new_log, ReadsNone, ReadsNothing, LeavesOthers}
 use Rattle.qls_log.proofs.Flushes.{all_but}
 use Rattle.qls_log.proofs.Gains.{Resting, has_files, GainedAll, gained_all, LastUnmarked, others_all, answered_all}
@@ -65,18 +65,11 @@ module _ (o : Opening) (pool left : PoolState) (h : HeadedFile) (a b : Content) 
   first_is : one.0.header.first ≡ 4096
   first_is = ap (λ (x : FileHeader). x.first) one.2.header ∙ ap (λ (x : FileHeader). x.first) headed.0
 
-  no_end : (n : ℕ) → 0 ≡ 0 * n + 0
-  no_end n = omega arith
-
-  reaches_start : ReachesTo (one.0 ∷ []) (end_of (new_log o h))
-  reaches_start = record { begins = begins_there one.0 first_is; records = []; stand = tt; ends = no_end (capacity_in o) }
-
   pub new_there : LogThere (new_log o h) b.now.disk
   new_there = record {
     waiting = tt;
     there = has_files o (h ∷ []) b.now.disk gains.resting;
     rests = all_but [] (h ∷ []) b.now.disk gains.resting.rest;
-    reaches = subst (λ (fs : List Headed). ReachesTo fs (end_of (new_log o h))) (sym one.1) reaches_start;
   }
 
   came_one : (fs : List Headed) → fs ≡ one.0 ∷ [] → LastUnmarked fs → IsUnmarked one.0

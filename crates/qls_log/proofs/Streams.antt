@@ -13,7 +13,7 @@ use Rattle.qls_meaning.specs.Journals.{Headed}
 use Rattle.qls_meaning.specs.Reading.{Holder, Placed, holder, stream, record_in, held_record, length_in, held_length, held_spelling, spelled_from, placed_from, end_from, begin_place, epoch_reading}
 use Rattle.qls_laws.specs.Readings.{Stand, AgreeUpTo, IsReading, LegalFrom, held_legal}
 use Rattle.qls_laws.proofs.Reaches.{stand_there}
-use Rattle.qls_laws.proofs.Unique.{spelled_where_read, read_where_spelled, only_epoch}
+use Rattle.qls_laws.proofs.Unique.{spelled_where_read, read_where_spelled, epoch_only_reading}
 use Rattle.qls_blocks.specs.Batching.{length_of}
 use Rattle.qls_blocks.proofs.Stream.{is_held, IsHeld}
 
@@ -108,7 +108,7 @@ batch_stands fs p (r ∷ rs) rest legal e =
     (refl, ap (λ (b : List ℕ). held_record b (holder fs p)) whole ∙ held_stands (holder fs p) r (more ++ rest) legal.0, refl, batch_stands fs (p + len) rs rest legal.1 behind)
 
 -- records within the stream are legal where they are held
-legal_held : (o : Option Holder) (r : Record) → IsHeld o → IsTrue (is_legal Two r) → IsTrue (held_legal o r)
+pub legal_held : (o : Option Holder) (r : Record) → IsHeld o → IsTrue (is_legal Two r) → IsTrue (held_legal o r)
 legal_held o r h legal = subst (λ x. IsTrue (held_legal x r)) (sym h.is) legal
 
 -- ---- joined
@@ -137,4 +137,4 @@ is_reading fs p (r ∷ rs) h none = (h.0, spelled_where_read fs p r.what h.1, h.
 
 -- what stands from the beginning up to a place where nothing does is the reading
 pub reading_is : (fs : List Headed) (rs : List Placed) → begin_place true fs ≡ 0 → Stand fs 0 rs → record_in fs (end_from 0 rs) ≡ None → epoch_reading true fs ≡ rs
-reading_is fs rs begins h none = sym (only_epoch true fs rs (subst (λ p. IsReading fs p rs) (sym begins) (is_reading fs 0 rs h none)))
+reading_is fs rs begins h none = sym (epoch_only_reading true fs rs (subst (λ p. IsReading fs p rs) (sym begins) (is_reading fs 0 rs h none)))

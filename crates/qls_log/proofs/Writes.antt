@@ -156,7 +156,7 @@ part_sectors at capacity left more part size is a c less l some =
     let whole : n % 4096 ≡ 0 = omega (arith, one, a, c, less, l) in
     (omega (arith, a), omega (arith, whole), omega (arith, one, less, some))
 
-size_after : (w : Rattle.qls_site.specs.Disk.Write) (f : FileState) → w.at + length w.bytes ≤ size_of f → size_of (record f { pending = f.pending ++ w ∷ [] }) ≡ size_of f
+pub size_after : (w : Rattle.qls_site.specs.Disk.Write) (f : FileState) → w.at + length w.bytes ≤ size_of f → size_of (record f { pending = f.pending ++ w ∷ [] }) ≡ size_of f
 size_after w f h = ap length (one_more f.pending w f.stable) ∙ length-written w (all_written f.pending f.stable) h
   where
     one_more : (ps : List Rattle.qls_site.specs.Disk.Write) (w : Rattle.qls_site.specs.Disk.Write) (old : List ℕ) → all_written (ps ++ w ∷ []) old ≡ Rattle.qls_site.specs.Disk.written w (all_written ps old)
@@ -178,7 +178,7 @@ room_one capacity id own at part b n fits acts h =
     subst (λ (c : Content). HasRange id 0 (4096 + capacity) c) (sym acts)
     (subst (InFile 0 (4096 + capacity)) (sym (file_of-change_file id own (writing at part) (λ f. refl) b.now.disk)) (range_kept (4096 + capacity) at own part (file_of id b.now.disk) h fits))
 
-room_all : (capacity own at : ℕ) (part ids : List ℕ) (b n : Content) → at + length part ≤ 4096 + capacity → Acts (on_disk (write_at own at part)) b n → HaveRoom capacity ids b → HaveRoom capacity ids n
+pub room_all : (capacity own at : ℕ) (part ids : List ℕ) (b n : Content) → at + length part ≤ 4096 + capacity → Acts (on_disk (write_at own at part)) b n → HaveRoom capacity ids b → HaveRoom capacity ids n
 room_all capacity own at part [] b n fits acts h = tt
 room_all capacity own at part (id ∷ ids) b n fits acts h = (room_one capacity id own at part b n fits acts h.0, room_all capacity own at part ids b n fits acts h.1)
 

@@ -77,20 +77,6 @@ pub record TakesAndWrites (rs : List Record) (old new : LogState) (pool left : P
 
 -- ---- what is read
 
--- the premises: each file that came into use was unmarked, and so was what lies behind the log's end
-pub record StartsClean (l : LogState) (a b : Content) : Type 0 where
-  pub behind : IsUnmarkedBehind l a.now.disk
-  pub unmarked : AllUnmarked a.now (moments_since a b)
-
--- the records of the batch follow those that were read before, fillers included, and what lies behind is unmarked
-pub record ReadsMore (rs : List Record) (old new : LogState) (a b : Content) : Type 0 where
-  pub reading : map (λ r. r.what) (journal_reading (journal_on b.now.disk old.opening.kind old.opening.name))
-      ≡ map (λ r. r.what) (journal_reading (journal_on a.now.disk old.opening.kind old.opening.name)) ++ with_fillers rs
-  pub behind : IsUnmarkedBehind new b.now.disk
-
-abbrev pub ReadsBatch : List Record → LogState → LogState → Content → Content → Type 0
-ReadsBatch rs old new a b = StartsClean old a b → ReadsMore rs old new a b
-
 -- nothing is read of a new log, and its data area is unmarked
 pub record ReadsNothing (l : LogState) (b : Content) : Type 0 where
   pub reading : journal_reading (journal_on b.now.disk l.opening.kind l.opening.name) ≡ []

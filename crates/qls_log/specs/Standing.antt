@@ -6,10 +6,8 @@ use Rattle.qls_laws.specs.Areas.{IsUnmarkedFrom}
 use Rattle.qls_filehdr.specs.Header.{header_spelling}
 use Rattle.qls_log.specs.Writing.{AreInUse}
 use Rattle.qls_meaning.specs.Journals.{Headed}
-use Rattle.qls_meaning.specs.Reading.{Placed, begin_place, end_from, journal_reading}
 use Rattle.qls_meaning.specs.Orderly.{journal_on}
 use Rattle.qls_pool.specs.Files.{HeadedFile, LinkedThere, RestsThere, IdsDiffer, is_among}
-use Rattle.qls_laws.specs.Readings.{Stand}
 use Rattle.qls_log.specs.declared.opening.Opening.{Opening}
 use Rattle.qls_log.specs.Logs.{LogState, capacity_in}
 
@@ -43,18 +41,7 @@ pub record HasFiles (o : Opening) (hs : List HeadedFile) (d : Disk) : Type 0 whe
   pub headers : AllByRecursion (λ h. take 4096 (bytes_at h.id d) ≡ header_spelling h.header) hs
   pub files : AreThoseFiles (capacity_in o) hs (files_on o d)
 
--- ---- the end
-
--- where the next batch goes, in the joined data areas
-abbrev pub end_of : LogState → ℕ
-end_of l = (length l.files - 1) * capacity_in l.opening + l.used
-
--- records stand from the beginning on, one behind the other, up to this place
-pub record ReachesTo (fs : List Headed) (end : ℕ) : Type 0 where
-  pub begins : begin_place true fs ≡ 0
-  pub records : List Placed
-  pub stand : Stand fs 0 records
-  pub ends : end_from 0 records ≡ end
+-- ---- what is pending
 
 -- what is not pending for this log's next flush is stable
 abbrev pub RestsBut : List ℕ → List HeadedFile → Disk → Type 0
@@ -62,12 +49,11 @@ RestsBut unsynced hs d = AllByRecursion (λ h. is_among h.id unsynced ≡ false 
 
 -- ---- the log
 
--- The log's files are those of its journal, and the records of its batches stand in them up to where the next one goes
+-- the log's files are those of its journal, and only those of its last batch have pending writes, past their headers
 pub record LogThere (l : LogState) (d : Disk) : Type 0 where
   pub waiting : AreInUse l.unsynced d
   pub there : HasFiles l.opening l.files d
   pub rests : RestsBut l.unsynced l.files d
-  pub reaches : ReachesTo (files_on l.opening d) (end_of l)
 
 -- the serial of the newest file stands at byte 8 of no unit behind what is written, pending writes applied
 abbrev pub LastIsUnmarked : ℕ → List Headed → Type 0

@@ -12,13 +12,13 @@ ghost use Rattle.qls_log.specs.Faults.{LogCauses, SiteCauses, Counts};
 ghost use Rattle.qls_log.specs.Taking.{TakesFiles, DrawsEach, MeetsEnd};
 ghost use Rattle.qls_log.specs.Spots.{spot_of};
 ghost use Rattle.qls_log.specs.Standing.{LogThere, IsUnmarkedBehind, files_on};
-ghost use Rattle.qls_log.specs.Appending.{IsNew, FollowRids, HasAppended, TakesAndWrites, ReadsBatch, ReadsNone, LeavesOthers, IsQuietBut, SyncsAll, SeesTheSame, ReadsInImages};
+ghost use Rattle.qls_log.specs.Appending.{IsNew, FollowRids, HasAppended, TakesAndWrites, ReadsNone, LeavesOthers, IsQuietBut, SyncsAll, SeesTheSame, ReadsInImages};
 
 use crate::fault::LogError;
 use crate::opening::Opening;
 use crate::spot::{Spot, spots};
 use crate::take::take_files;
-use crate::write::write_batch;
+use crate::write::{files_from, used_behind, write_batch};
 use qls_blocks::{Batch, FreshFile, sync_parts};
 use qls_filehdr::JournalKind;
 use qls_model::{Name, PoolId, Seq};
@@ -133,7 +133,6 @@ impl Log {
         ensures spots { IfOk result (λ spots. spots ≡ map (spot_of (capacity_in self.old.opening) self.old.newest) (laid_from self.old.used batch.now)) }
         ensures there { IfOk result (λ _. IfSome (S.told site.new) (OnDisk (LogThere self.new))) }
         ensures pool { IfOk result (λ _. IfSome (S.told site.new) (OnDisk (IsPoolOf pool.new []))) }
-        ensures reading { IfOk result (λ _. Tells (ReadsBatch batch.now self.old self.new) (S.told site.old) (S.told site.new)) }
         ensures others { IfOk result (λ _. Tells (LeavesOthers self.new.files) (S.told site.old) (S.told site.new)) }
         ensures spent { result ≡ Err LogError.Spent → MeetsEnd self.old.opening self.old.newest (length (plan_of batch.now self.old.used (capacity_in self.old.opening) self.old.rid).fresh) pool.new }
         ensures at_end { 0 < length (plan_of batch.now self.old.used (capacity_in self.old.opening) self.old.rid).fresh → MeetsEnd self.old.opening self.old.newest 1 pool.old → (result ≡ Err LogError.Spent) ⊎ (result ≡ Err LogError.Memory) }
@@ -152,9 +151,10 @@ impl Log {
         let mut taken = take_files(alloc, site, pool, serials, &opening, newest, fresh)?;
         let before = self.files.len();
         self.files.append(&mut taken)?;
-        let written = write_batch(alloc, site, &self.files[before - 1..], batch, &plan, used, capacity)?;
+        let over = files_from(&self.files, before - 1);
+        let written = write_batch(alloc, site, over, batch, &plan, used, capacity)?;
         self.newest = newest + fresh.len() as u64;
-        self.used = used + plan.length - capacity * fresh.len() as u64;
+        self.used = used_behind(used, plan.length, capacity, fresh.len() as u64);
         self.rid = batch.last_rid();
         self.unsynced = written;
         self.ended = false;

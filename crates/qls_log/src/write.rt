@@ -1,5 +1,5 @@
 // The parts of a batch, one write for each file.
-ghost use Rattle.std.specs.Prelude.{◌≡◌, ℕ, ◌+◌, ◌*◌, ◌%◌, ◌≤◌, ◌<◌, ◌^◌, if◌then◌else◌, ◌==◌, length, min, IfOk, IfSome};
+ghost use Rattle.std.specs.Prelude.{◌≡◌, ℕ, ◌+◌, ◌-◌, ◌*◌, ◌/◌, ◌%◌, ◌≤◌, ◌<◌, ◌^◌, if◌then◌else◌, ◌==◌, drop, length, min, IfOk, IfSome};
 ghost use Rattle.qls_site.specs.Content.{Tells, Causes};
 ghost use Rattle.qls_blocks.specs.Batching.{with_fillers};
 ghost use Rattle.qls_blocks.specs.Plans.{IsPlanOf};
@@ -76,6 +76,14 @@ fn ids_of(alloc: Global, files: &[Linked]) -> Result<Seq<u64>, NoMemory>
     Ok(list)
 }
 
+/// The files from one on.
+pub(crate) fn files_from(files: &[Linked], at: usize) -> &[Linked]
+    requires there { at ≤ length files.now }
+    ensures exact { result.now ≡ drop at files.now }
+{
+    &files[at..]
+}
+
 /// The files with room behind `used` bytes of the first one: without that one where it is full.
 fn with_room(files: &[Linked], used: u64, capacity: u64) -> &[Linked]
     requires some { 0 < length files.now }
@@ -89,6 +97,24 @@ fn place_behind(used: u64, capacity: u64) -> u64
     ensures exact { result ≡ (if used == capacity then 0 else used) }
 {
     if used == capacity { 0 } else { used }
+}
+
+/// How many bytes of the last file's data area are written, where `length` bytes are laid over the file of which `used`
+/// bytes are taken, and over so many fresh ones behind it.
+pub(crate) fn used_behind(used: u64, length: u64, capacity: u64, fresh: u64) -> u64
+    requires capacity { (0 < capacity) × (capacity % 4096 ≡ 0) }
+    requires used { (used % 4096 ≡ 0) × (used ≤ capacity) }
+    requires length { (0 < length) × (length % 4096 ≡ 0) }
+    requires fresh { fresh ≡ (used + length - 1) / capacity }
+    ensures exact { result + capacity * fresh ≡ used + length }
+    ensures blocks { result % 4096 ≡ 0 }
+    ensures within { result ≤ capacity }
+{
+    if fresh == 0 {
+        used + length
+    } else {
+        length - (capacity - used) - capacity * (fresh - 1)
+    }
 }
 
 /// Spells a batch for these files, the first of which has `used` bytes taken, and writes each its part. It answers the
