@@ -97,7 +97,14 @@ pub(crate) fn take_files<S: Site, N: Serials>(
         if number == LAST_NUMBER {
             return Err(LogError::Spent);
         }
-        let file = take_file(site, pool, serials, opening, number + 1, fresh_at(fresh, at))?;
+        let file = take_file(
+            site,
+            pool,
+            serials,
+            opening,
+            number + 1,
+            fresh_at(fresh, at),
+        )?;
         number += 1;
         files.push(file)?;
     }

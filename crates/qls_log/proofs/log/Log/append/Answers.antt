@@ -68,7 +68,7 @@ returns-clause-appended g c =
     let over : c.files_from-over.result.now ≡ from_newest l taken = search rules in
     let written : c.in_ok-written.written ≡ ids (from_written c.capacity-capacity.result l.used c.files_from-over.result.now) = c.in_ok-written.ensures.written in
     subst (λ (x : LogState). (t : List HeadedFile) × HasAppended c.args.batch.now x new t × DrawsEach t (g.N.Serials.drawn c.args.serials.now) (g.N.Serials.drawn c.take_files.new.serials)
-        × Tells (TakesAndWrites c.args.batch.now x new c.args.pool.now c.take_files.new.pool t) (g.S.Site.told c.args.site.now) (g.S.Site.told c.write_batch.new.site)) c.self.view_is (
+    × Tells (TakesAndWrites c.args.batch.now x new c.args.pool.now c.take_files.new.pool t) (g.S.Site.told c.args.site.now) (g.S.Site.told c.write_batch.new.site)) c.self.view_is (
       taken,
       record {
         headers =

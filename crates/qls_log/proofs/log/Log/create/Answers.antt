@@ -1,5 +1,4 @@
 use Rattle.std.proofs.Common.{◌≡◌, ℕ, ◌*◌, ◌≤◌, true, [], ◌∷◌, List, Err, IfSome, IsTrue, sym, ap, ◌∙◌, subst, rules, arith}
-
 use Rattle.std.specs.List.{AllByRecursion}
 use Rattle.qls_site.specs.Content.{Tells}
 use Rattle.qls_model.specs.Limits.{is_kib}
