@@ -36,12 +36,12 @@ use Rattle.qls_log.proofs.Streams.{splice, HaveSameHeads, agree, batch_stands, s
 
 -- ---- lists
 
-those_split : (cap : ℕ) (xs ys : List HeadedFile) (fs : List Headed) → AreThoseFiles cap (xs ++ ys) fs → (gs : List Headed) × (more : List Headed) × (fs ≡ gs ++ more) × AreThoseFiles cap xs gs × AreThoseFiles cap ys more
+pub those_split : (cap : ℕ) (xs ys : List HeadedFile) (fs : List Headed) → AreThoseFiles cap (xs ++ ys) fs → (gs : List Headed) × (more : List Headed) × (fs ≡ gs ++ more) × AreThoseFiles cap xs gs × AreThoseFiles cap ys more
 those_split cap [] ys fs t = ([], fs, refl, tt, t)
 those_split cap (x ∷ xs) ys [] t = absurd t
 those_split cap (x ∷ xs) ys (f ∷ fs) t = let rest = those_split cap xs ys fs t.1 in (f ∷ rest.0, rest.1, ap (λ (gs : List Headed). f ∷ gs) rest.2, (t.0, rest.3), rest.4)
 
-same_heads : (cap : ℕ) (hs : List HeadedFile) (fs gs : List Headed) → AreThoseFiles cap hs fs → AreThoseFiles cap hs gs → HaveSameHeads fs gs
+pub same_heads : (cap : ℕ) (hs : List HeadedFile) (fs gs : List Headed) → AreThoseFiles cap hs fs → AreThoseFiles cap hs gs → HaveSameHeads fs gs
 same_heads cap [] [] [] s t = tt
 same_heads cap [] [] (g ∷ gs) s t = absurd t
 same_heads cap [] (f ∷ fs) gs s t = absurd s
@@ -49,13 +49,13 @@ same_heads cap (h ∷ hs) [] gs s t = absurd s
 same_heads cap (h ∷ hs) (f ∷ fs) [] s t = absurd t
 same_heads cap (h ∷ hs) (f ∷ fs) (g ∷ gs) s t = (t.0.header ∙ sym s.0.header, t.0.area ∙ sym s.0.area, same_heads cap hs fs gs s.1 t.1)
 
-all_capacity : (cap : ℕ) (hs : List HeadedFile) (fs : List Headed) → AreThoseFiles cap hs fs → HaveCapacity cap fs
+pub all_capacity : (cap : ℕ) (hs : List HeadedFile) (fs : List Headed) → AreThoseFiles cap hs fs → HaveCapacity cap fs
 all_capacity cap [] [] t = tt
 all_capacity cap [] (f ∷ fs) t = absurd t
 all_capacity cap (h ∷ hs) [] t = absurd t
 all_capacity cap (h ∷ hs) (f ∷ fs) t = (t.0.area, all_capacity cap hs fs t.1)
 
-same_serials : (cap : ℕ) (hs : List HeadedFile) (fs : List Headed) → AreThoseFiles cap hs fs → serials_of fs ≡ serials hs
+pub same_serials : (cap : ℕ) (hs : List HeadedFile) (fs : List Headed) → AreThoseFiles cap hs fs → serials_of fs ≡ serials hs
 same_serials cap [] [] t = refl
 same_serials cap [] (f ∷ fs) t = absurd t
 same_serials cap (h ∷ hs) [] t = absurd t
@@ -104,7 +104,7 @@ length_of_append : (rs qs : List Record) → length_of (rs ++ qs) ≡ length_of 
 length_of_append [] qs = omega arith
 length_of_append (r ∷ rs) qs = ap (λ n. record_length Two r + n) (length_of_append rs qs) ∙ omega arith
 
-end_laid : (p : ℕ) (rs : List Record) → end_from p (laid_from p rs) ≡ p + length_of rs
+pub end_laid : (p : ℕ) (rs : List Record) → end_from p (laid_from p rs) ≡ p + length_of rs
 end_laid p [] = omega arith
 end_laid p (r ∷ rs) = end_laid (p + record_length Two r) rs ∙ omega arith
 
@@ -115,7 +115,7 @@ what_laid p (r ∷ rs) = ap (λ (qs : List Record). r ∷ qs) (what_laid (p + re
 least_one : (r : Record) → 128 ≤ record_length Two r
 least_one r = Rattle.qls_record.proofs.RecordLength.record_length_least Two r
 
-all_legal : (fs : List Headed) (p : ℕ) (rs : List Record) → AllByRecursion (λ r. IsTrue (is_legal Two r)) rs → p + length_of rs ≤ length (stream fs) → LegalFrom fs p rs
+pub all_legal : (fs : List Headed) (p : ℕ) (rs : List Record) → AllByRecursion (λ r. IsTrue (is_legal Two r)) rs → p + length_of rs ≤ length (stream fs) → LegalFrom fs p rs
 all_legal fs p [] l fits = tt
 all_legal fs p (r ∷ rs) l fits =
     let some = least_one r in
@@ -123,12 +123,12 @@ all_legal fs p (r ∷ rs) l fits =
     let len : length_in fs p r ≡ record_length Two r = ap (λ o. held_length o r) held.is in
     (legal_held (Rattle.qls_meaning.specs.Reading.holder fs p) r held l.0, subst (λ n. LegalFrom fs (p + n) rs) (sym len) (all_legal fs (p + record_length Two r) rs l.1 (omega (arith, fits))))
 
-take_splice : (p : ℕ) (b old : List ℕ) → p ≤ length old → take p (splice p b old) ≡ take p old
+pub take_splice : (p : ℕ) (b old : List ℕ) → p ≤ length old → take p (splice p b old) ≡ take p old
 take_splice p b old h =
     let size : length (take p old) ≡ p = length-take p old ∙ omega (arith, h) in
     ap (take p) (append_assoc (take p old) b (drop (p + length b) old)) ∙ ap (λ n. take n (take p old ++ (b ++ drop (p + length b) old))) (sym size) ∙ take-append_seam (take p old) (b ++ drop (p + length b) old)
 
-drop_splice : (p : ℕ) (b old : List ℕ) → p ≤ length old → drop p (splice p b old) ≡ b ++ drop (p + length b) old
+pub drop_splice : (p : ℕ) (b old : List ℕ) → p ≤ length old → drop p (splice p b old) ≡ b ++ drop (p + length b) old
 drop_splice p b old h =
     let size : length (take p old) ≡ p = length-take p old ∙ omega (arith, h) in
     ap (drop p) (append_assoc (take p old) b (drop (p + length b) old)) ∙ ap (λ n. drop n (take p old ++ (b ++ drop (p + length b) old))) (sym size) ∙ drop-append_seam (take p old) (b ++ drop (p + length b) old)

@@ -1,12 +1,12 @@
 -- What a batch plans for its files is within the limits.
-use Rattle.std.proofs.Common.{◌≡◌, ℕ, zero, suc, ◌+◌, ◌-◌, ◌*◌, ◌/◌, ◌%◌, ◌^◌, ◌<◌, ◌≤◌, Bool, true, false, cond, ◌&&◌, ◌||◌, ltb, leb, eqb, List, [], ◌∷◌, ◌++◌, map, length, replicate, refl, sym, ap, ap₂, ◌∙◌, subst, arith}
-use Rattle.std.proofs.lemmas.Bool.{le-leb}
+use Rattle.std.proofs.Common.{◌≡◌, ℕ, zero, suc, ◌+◌, ◌-◌, ◌*◌, ◌/◌, ◌%◌, ◌^◌, ◌<◌, ◌≤◌, Bool, true, false, cond, ◌&&◌, ◌||◌, ltb, leb, eqb, List, [], ◌∷◌, ◌++◌, map, length, replicate, IsTrue, refl, sym, ap, ap₂, ◌∙◌, subst, arith}
+use Rattle.std.proofs.lemmas.Bool.{le-leb, lt-ltb}
 use Rattle.std.proofs.lemmas.Bool.Decides.{nat_tests}
 use Rattle.std.specs.List.{AllByRecursion}
 use Rattle.qls_model.specs.Limits.{file_size}
 use Rattle.qls_shape.specs.Lengths.{padded_length}
 use Rattle.qls_shape.specs.declared.Version.TheVariants.{Two}
-use Rattle.qls_record.specs.Record.{Record, record_length, is_enqueue}
+use Rattle.qls_record.specs.Record.{Record, record_length, is_enqueue, is_legal}
 use Rattle.qls_filehdr.specs.Limits.{is_first_place}
 use Rattle.qls_meaning.specs.Reading.{Placed}
 use Rattle.qls_meaning.specs.Damage.{first_in, rid_before}
@@ -113,3 +113,19 @@ rid_behind rid rs h = last_small 0 rs none_small (small_rids rid rs h)
 pub rid_of_some : (a b : ℕ) (rs : List Record) → 0 < length rs → last_rid a rs ≡ last_rid b rs
 rid_of_some a b [] h = absurd (omega arith)
 rid_of_some a b (r ∷ rs) h = refl
+
+legal_filler : (n : ℕ) → n < 2 ^ 62 → IsTrue (is_legal Two (filler_of n))
+legal_filler n h =
+    let b : ltb n (2 ^ 64) ≡ true = lt-ltb n (2 ^ 64) (omega (arith, h)) in
+    λ i. b i && true && true && true && true && true && true
+
+legal_copies : (k n : ℕ) → n < 2 ^ 62 → AllByRecursion (λ r. IsTrue (is_legal Two r)) (replicate k (filler_of n))
+legal_copies zero n h = tt
+legal_copies (suc k) n h = (legal_filler n h, legal_copies k n h)
+
+legal_join : (rs qs : List Record) → AllByRecursion (λ r. IsTrue (is_legal Two r)) rs → AllByRecursion (λ r. IsTrue (is_legal Two r)) qs → AllByRecursion (λ r. IsTrue (is_legal Two r)) (rs ++ qs)
+legal_join [] qs a b = b
+legal_join (r ∷ rs) qs a b = (a.0, legal_join rs qs a.1 b)
+
+pub filled_legal : (rid : ℕ) (rs : List Record) → FollowRids rid rs → AllByRecursion (λ r. IsTrue (is_legal Two r)) rs → AllByRecursion (λ r. IsTrue (is_legal Two r)) (with_fillers rs)
+filled_legal rid rs h l = legal_join rs (replicate (filler_count rs) (filler_of (last_rid 0 rs))) l (legal_copies (filler_count rs) (last_rid 0 rs) (rid_behind rid rs h))

@@ -23,8 +23,10 @@ use Rattle.qls_pool.proofs.Calls.{by_err}
 use Rattle.qls_log.specs.declared.opening.Opening.{Opening}
 use Rattle.qls_log.specs.Logs.{LogState, capacity_in}
 use Rattle.qls_log.specs.Writing.{AreInUse}
-use Rattle.qls_log.specs.Standing.{LogThere, HasFiles, RestsBut, files_on, AreThoseFiles, LastIsUnmarked, IsUnmarkedBehind}
-use Rattle.qls_log.specs.Appending.{SeesTheSame, IsQuietBut, ReadsInImages}
+use Rattle.qls_log.specs.Standing.{LogThere, HasFiles, RestsBut, files_on, AreThoseFiles, LastIsUnmarked, IsUnmarkedBehind, StandsWith}
+use Rattle.qls_meaning.specs.Reading.{Placed, begin_place}
+use Rattle.qls_laws.specs.Readings.{Stand}
+use Rattle.qls_log.specs.Appending.{SeesTheSame, StandsStill, IsQuietBut, ReadsInImages}
 use Rattle.qls_log.proofs.Splits.{full-sync}
 use Rattle.qls_log.proofs.Steps.{sync_step, step_same}
 
@@ -275,3 +277,14 @@ told_behind l ids r None b t = tt
 told_behind l ids r (Some x) None t = tt
 told_behind l ids r (Some x) (Some y) t = λ h.
     subst (λ (i : Image). LastIsUnmarked l.used (journal (map headed (in_use i)) l.opening.kind l.opening.name).files) (sym (same_seen ids x y (synced_some ids r x y t)).files) h
+
+still : (l : LogState) (kept : List Placed) (d e : Disk) → full e ≡ full d → StandsWith l kept d → StandsWith (flushed l) kept e
+still l kept d e same k =
+    let files : files_on l.opening e ≡ files_on l.opening d = ap (λ (i : Image). (journal (map headed (in_use i)) l.opening.kind l.opening.name).files) same in
+    record { begins = ap (begin_place true) files ∙ k.begins; stand = subst (λ (fs : List Headed). Stand fs 0 kept) (sym files) k.stand; ends = k.ends }
+
+pub told_still : (l : LogState) (ids : List ℕ) (r : Result (Unit {0}) SiteError) (a b : Option Content) → Tells (Syncs ids r) a b → Tells (StandsStill l (flushed l)) a b
+told_still l ids r None None t = tt
+told_still l ids r None (Some y) t = absurd t
+told_still l ids r (Some x) None t = absurd t
+told_still l ids r (Some x) (Some y) t = λ kept k. still l kept x.now.disk y.now.disk (same_seen ids x y (synced_some ids r x y t)).files k

@@ -12,3 +12,4 @@ pub mod Sizes
 pub mod Fits
 pub mod Appends
 pub mod Appended
+pub mod Stands

@@ -19,7 +19,7 @@ use Rattle.qls_pool.specs.Files.{HeadedFile, IsWholePool, OnDisk, is_among}
 use Rattle.qls_log.specs.declared.opening.Opening.{Opening}
 use Rattle.qls_log.specs.Logs.{LogState, capacity_in, AreHeaded, ids}
 use Rattle.qls_log.specs.Taking.{TakesFiles, MeetsEnd}
-use Rattle.qls_log.specs.Standing.{files_on, AreThoseFiles, IsThatFile, LogThere, IsUnmarkedBehind, LastIsUnmarked}
+use Rattle.qls_log.specs.Standing.{files_on, AreThoseFiles, IsThatFile, LogThere, StandsWith, IsUnmarkedBehind, LastIsUnmarked}
 use Rattle.qls_log.specs.Appending.{IsNew, new_log, ReadsNone, ReadsNothing, LeavesOthers}
 use Rattle.qls_log.proofs.Flushes.{all_but}
 use Rattle.qls_log.proofs.Gains.{Resting, has_files, GainedAll, gained_all, LastUnmarked, others_all, answered_all}
@@ -72,6 +72,15 @@ module _ (o : Opening) (pool left : PoolState) (h : HeadedFile) (a b : Content) 
     rests = all_but [] (h ∷ []) b.now.disk gains.resting.rest;
   }
 
+  no_end : (n : ℕ) → 0 ≡ 0 * n + 0
+  no_end n = omega arith
+
+  start_stands : StandsWith (new_log o h) [] b.now.disk
+  start_stands = record { begins = ap (begin_place true) one.1 ∙ begins_there one.0 first_is; stand = tt; ends = no_end (capacity_in o) }
+
+  pub new_stands : StandsWith (new_log o h) [] b.now.disk
+  new_stands = start_stands
+
   came_one : (fs : List Headed) → fs ≡ one.0 ∷ [] → LastUnmarked fs → IsUnmarked one.0
   came_one fs e u = subst LastUnmarked e u
 
@@ -101,6 +110,12 @@ module _ (o : Opening) (pool left : PoolState) (h : HeadedFile) (headed : AreHea
   told_new None (Some y) t w n = absurd t
   told_new (Some x) None t w n = absurd t
   told_new (Some x) (Some y) t w n = new_there o pool left h x y t headed legal w n
+
+  pub told_start : (a b : Option Content) → Tells (TakesFiles o.home pool left (h ∷ [])) a b → IfSome a (OnDisk (IsWholePool pool)) → IfSome a (OnDisk (λ d. files_on o d ≡ [])) → IfSome b (OnDisk (StandsWith (new_log o h) []))
+  told_start None None t w n = tt
+  told_start None (Some y) t w n = absurd t
+  told_start (Some x) None t w n = absurd t
+  told_start (Some x) (Some y) t w n = new_stands o pool left h x y t headed legal w n
 
   pub told_reads : (a b : Option Content) → 128 ≤ capacity_in o → Tells (TakesFiles o.home pool left (h ∷ [])) a b → IfSome a (OnDisk (IsWholePool pool)) → IfSome a (OnDisk (λ d. files_on o d ≡ [])) → Tells (ReadsNone (new_log o h)) a b
   told_reads None None room t w n = tt

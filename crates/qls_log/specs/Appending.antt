@@ -11,10 +11,10 @@ use Rattle.qls_log.specs.Faults.{fault_of_site}
 use Rattle.qls_site.specs.Content.{Content, moments_since}
 use Rattle.qls_filehdr.specs.declared.JournalKind.{JournalKind}
 use Rattle.qls_filehdr.specs.declared.FileHeader.{FileHeader}
-use Rattle.qls_meaning.specs.Reading.{journal_reading}
+use Rattle.qls_meaning.specs.Reading.{Placed, journal_reading}
 use Rattle.qls_meaning.specs.History.{AllUnmarked}
 use Rattle.qls_meaning.specs.Orderly.{journal_on}
-use Rattle.qls_blocks.specs.Batching.{with_fillers, last_rid, length_of, block_length}
+use Rattle.qls_blocks.specs.Batching.{laid_from, with_fillers, last_rid, length_of, block_length}
 use Rattle.qls_blocks.specs.Plans.{plan_of}
 use Rattle.qls_blocks.specs.Spelled.{spelled_over}
 use Rattle.qls_pool.specs.Pools.{PoolState}
@@ -23,7 +23,7 @@ use Rattle.qls_log.specs.declared.opening.Opening.{Opening}
 use Rattle.qls_log.specs.Logs.{LogState, capacity_in, AreHeaded, ids, serials}
 use Rattle.qls_log.specs.Taking.{TakesFiles}
 use Rattle.qls_log.specs.Writing.{WritesAll, from_written}
-use Rattle.qls_log.specs.Standing.{IsUnmarkedBehind}
+use Rattle.qls_log.specs.Standing.{IsUnmarkedBehind, StandsWith, end_of}
 
 -- ---- a new log
 
@@ -84,6 +84,15 @@ pub record ReadsNothing (l : LogState) (b : Content) : Type 0 where
 
 abbrev pub ReadsNone : LogState → Content → Content → Type 0
 ReadsNone l a b = AllUnmarked a.now (moments_since a b) → ReadsNothing l b
+
+-- the records of the batch stand behind those that stood before, fillers included
+abbrev pub StandsBehind : List Record → LogState → LogState → Content → Content → Type 0
+StandsBehind rs old new a b =
+    (kept : List Placed) → StandsWith old kept a.now.disk → StandsWith new (kept ++ laid_from (end_of old) (with_fillers rs)) b.now.disk
+
+-- the records that stood stand still
+abbrev pub StandsStill : LogState → LogState → Content → Content → Type 0
+StandsStill old new a b = (kept : List Placed) → StandsWith old kept a.now.disk → StandsWith new kept b.now.disk
 
 -- ---- what stays
 

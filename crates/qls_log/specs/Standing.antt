@@ -6,6 +6,8 @@ use Rattle.qls_laws.specs.Areas.{IsUnmarkedFrom}
 use Rattle.qls_filehdr.specs.Header.{header_spelling}
 use Rattle.qls_log.specs.Writing.{AreInUse}
 use Rattle.qls_meaning.specs.Journals.{Headed}
+use Rattle.qls_meaning.specs.Reading.{Placed, begin_place, end_from}
+use Rattle.qls_laws.specs.Readings.{Stand}
 use Rattle.qls_meaning.specs.Orderly.{journal_on}
 use Rattle.qls_pool.specs.Files.{HeadedFile, LinkedThere, RestsThere, IdsDiffer, is_among}
 use Rattle.qls_log.specs.declared.opening.Opening.{Opening}
@@ -54,6 +56,17 @@ pub record LogThere (l : LogState) (d : Disk) : Type 0 where
   pub waiting : AreInUse l.unsynced d
   pub there : HasFiles l.opening l.files d
   pub rests : RestsBut l.unsynced l.files d
+-- ---- records
+
+-- where the next batch goes, in the joined data areas
+abbrev pub end_of : LogState → ℕ
+end_of l = (length l.files - 1) * capacity_in l.opening + l.used
+
+-- these records stand in the journal from its first data area on, one behind the other, up to where the next batch goes
+pub record StandsWith (l : LogState) (kept : List Placed) (d : Disk) : Type 0 where
+  pub begins : begin_place true (files_on l.opening d) ≡ 0
+  pub stand : Stand (files_on l.opening d) 0 kept
+  pub ends : end_from 0 kept ≡ end_of l
 
 -- the serial of the newest file stands at byte 8 of no unit behind what is written, pending writes applied
 abbrev pub LastIsUnmarked : ℕ → List Headed → Type 0

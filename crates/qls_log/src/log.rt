@@ -11,8 +11,8 @@ ghost use Rattle.qls_log.specs.Logs.{IsLegalOpening, capacity_in};
 ghost use Rattle.qls_log.specs.Faults.{LogCauses, SiteCauses, Counts};
 ghost use Rattle.qls_log.specs.Taking.{TakesFiles, DrawsEach, MeetsEnd};
 ghost use Rattle.qls_log.specs.Spots.{spot_of};
-ghost use Rattle.qls_log.specs.Standing.{LogThere, IsUnmarkedBehind, files_on};
-ghost use Rattle.qls_log.specs.Appending.{IsNew, FollowRids, HasAppended, TakesAndWrites, ReadsNone, LeavesOthers, IsQuietBut, SyncsAll, SeesTheSame, ReadsInImages};
+ghost use Rattle.qls_log.specs.Standing.{LogThere, StandsWith, IsUnmarkedBehind, files_on};
+ghost use Rattle.qls_log.specs.Appending.{IsNew, FollowRids, HasAppended, TakesAndWrites, ReadsNone, StandsBehind, StandsStill, LeavesOthers, IsQuietBut, SyncsAll, SeesTheSame, ReadsInImages};
 
 use crate::fault::LogError;
 use crate::opening::Opening;
@@ -79,6 +79,7 @@ impl Log {
         ensures there { IfOk result (λ log. IfSome (S.told site.new) (OnDisk (LogThere log))) }
         ensures pool { IfOk result (λ _. IfSome (S.told site.new) (OnDisk (IsWholePool pool.new))) }
         ensures reading { IfOk result (λ log. Tells (ReadsNone log) (S.told site.old) (S.told site.new)) }
+        ensures stands { IfOk result (λ log. IfSome (S.told site.new) (OnDisk (StandsWith log []))) }
         ensures others { IfOk result (λ log. Tells (LeavesOthers log.files) (S.told site.old) (S.told site.new)) }
         ensures spent { result ≡ Err LogError.Spent → IsSpent home pool.new }
         ensures at_end { IsSpent home pool.old → (result ≡ Err LogError.Spent) ⊎ (result ≡ Err LogError.Memory) }
@@ -133,6 +134,7 @@ impl Log {
         ensures spots { IfOk result (λ spots. spots ≡ map (spot_of (capacity_in self.old.opening) self.old.newest) (laid_from self.old.used batch.now)) }
         ensures there { IfOk result (λ _. IfSome (S.told site.new) (OnDisk (LogThere self.new))) }
         ensures pool { IfOk result (λ _. IfSome (S.told site.new) (OnDisk (IsPoolOf pool.new []))) }
+        ensures stands { IfOk result (λ _. Tells (StandsBehind batch.now self.old self.new) (S.told site.old) (S.told site.new)) }
         ensures others { IfOk result (λ _. Tells (LeavesOthers self.new.files) (S.told site.old) (S.told site.new)) }
         ensures spent { result ≡ Err LogError.Spent → MeetsEnd self.old.opening self.old.newest (length (plan_of batch.now self.old.used (capacity_in self.old.opening) self.old.rid).fresh) pool.new }
         ensures at_end { 0 < length (plan_of batch.now self.old.used (capacity_in self.old.opening) self.old.rid).fresh → MeetsEnd self.old.opening self.old.newest 1 pool.old → (result ≡ Err LogError.Spent) ⊎ (result ≡ Err LogError.Memory) }
@@ -173,6 +175,7 @@ impl Log {
         ensures told { Tells (SyncsAll self.old.unsynced result) (S.told site.old) (S.told site.new) }
         ensures there { IfOk result (λ _. IfSome (S.told site.new) (OnDisk (LogThere self.new))) }
         ensures reading { Tells SeesTheSame (S.told site.old) (S.told site.new) }
+        ensures stands { IfOk result (λ _. Tells (StandsStill self.old self.new) (S.told site.old) (S.told site.new)) }
         ensures behind { IfOk result (λ _. Carries (IsUnmarkedBehind self.old) (IsUnmarkedBehind self.new) (S.told site.old) (S.told site.new)) }
         ensures pool { (pool : PoolState) (out : List ℕ) → Carries (IsPoolOf pool out) (IsPoolOf pool out) (S.told site.old) (S.told site.new) }
         ensures quiet { IfOk result (λ _. Carries (IsQuietBut self.old.unsynced) IsQuiet (S.told site.old) (S.told site.new)) }

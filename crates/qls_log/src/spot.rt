@@ -1,5 +1,8 @@
 // Where the records of a batch lie.
-ghost use Rattle.std.specs.Prelude.{◌≡◌, ◌≤◌, ◌<◌, ◌^◌, map, IfOk};
+ghost use Rattle.std.specs.Prelude.{◌≡◌, ◌≤◌, ◌<◌, ◌^◌, map, IfOk, IsTrue};
+ghost use Rattle.std.specs.List.{AllByRecursion};
+ghost use Rattle.qls_shape.specs.declared.Version.TheVariants.{Two};
+ghost use Rattle.qls_record.specs.Record.{is_legal};
 ghost use Rattle.qls_blocks.specs.Batching.{laid_from};
 ghost use Rattle.qls_log.specs.Spots.{spot_in, spot_of};
 
@@ -42,6 +45,7 @@ pub(crate) fn spots(
     requires capacity { (4096 ≤ capacity) × (capacity < 2 ^ 40) }
     requires present { present < 2 ^ 62 }
     ensures exact { IfOk result (λ spots. spots ≡ map (spot_of capacity present) (laid_from used batch.now)) }
+    ensures legal { AllByRecursion (λ r. IsTrue (is_legal Two r)) batch.now }
 {
     let mut spots = Seq::new(alloc);
     let mut place = used;

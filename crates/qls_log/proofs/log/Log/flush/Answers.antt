@@ -5,8 +5,8 @@ use Rattle.qls_pool.specs.Files.{OnDisk, Carries}
 use Rattle.qls_log.specs.declared.fault.LogError.{LogError}
 use Rattle.qls_log.specs.Logs.{LogState}
 use Rattle.qls_log.specs.Standing.{LogThere, IsUnmarkedBehind}
-use Rattle.qls_log.specs.Appending.{IsQuietBut, ReadsInImages}
-use Rattle.qls_log.proofs.Flushes.{there_are, waiting_of, told_same, told_pool, told_quiet, told_images, told_there, told_behind, told_orderly_ok, told_orderly_err}
+use Rattle.qls_log.specs.Appending.{StandsStill, IsQuietBut, ReadsInImages}
+use Rattle.qls_log.proofs.Flushes.{there_are, waiting_of, told_same, told_pool, told_quiet, told_images, told_there, told_still, told_behind, told_orderly_ok, told_orderly_err}
 use Rattle.qls_log.proofs.log.Log.flush.Goals as goal
 
 pub sync_parts-requires : goal.sync_parts-requires
@@ -58,3 +58,8 @@ returns-clause-images g c =
 
 pub returns-clause-orderly : goal.returns-clause-orderly
 returns-clause-orderly g c = told_orderly_ok LogError c.self.inside.unsynced _ (tt {0}) _ _ c.in_ok-sync_parts.ensures.told
+
+pub returns-clause-stands : goal.returns-clause-stands
+returns-clause-stands g c =
+    subst (λ (l : LogState). Tells (StandsStill c.args.self.now l) (g.S.Site.told c.args.site.now) (g.S.Site.told c.sync_parts.new.site)) (sym (returns-clause-log g c))
+    (told_still c.args.self.now c.self.inside.unsynced (Ok c.in_ok-sync_parts.field-0) _ _ c.in_ok-sync_parts.ensures.told)
