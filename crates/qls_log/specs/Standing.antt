@@ -56,6 +56,7 @@ pub record LogThere (l : LogState) (d : Disk) : Type 0 where
   pub waiting : AreInUse l.unsynced d
   pub there : HasFiles l.opening l.files d
   pub rests : RestsBut l.unsynced l.files d
+
 -- ---- records
 
 -- where the next batch goes, in the joined data areas
