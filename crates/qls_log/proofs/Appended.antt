@@ -73,13 +73,15 @@ numbered_more o n newest [] (f ∷ fs) (h ∷ taken) m t =
 numbered_more o n newest (g ∷ hs) fs taken m t = (m.0, numbered_more o (n + 1) newest hs fs taken m.1 t)
 
 pub sound_after : (l : LogState) (fs : List FreshFile) (taken : List HeadedFile) (new : LogState) → IsSound l → AreHeaded l.opening l.newest fs taken → new.opening ≡ l.opening → new.files ≡ l.files ++ taken → new.newest ≡ l.newest + length taken
-    → new.newest < 2 ^ 62 → (new.used % 4096 ≡ 0) × (new.used ≤ capacity_in l.opening) → new.rid < 2 ^ 62 → IsSound new
-sound_after l fs taken new s t o files newest small used rid =
+    → new.newest < 2 ^ 62 → (new.used % 4096 ≡ 0) × (new.used ≤ capacity_in l.opening) → new.rid < 2 ^ 62
+    → AllByRecursion (λ h. IsTrue (is_legal_header h.header)) taken → IsSound new
+sound_after l fs taken new s t o files newest small used rid legal =
     let size : length new.files ≡ length l.files + length taken = ap length files ∙ length-append l.files taken in
     let start : new.newest + 1 - length new.files ≡ l.newest + 1 - length l.files = omega (arith, size, newest, s.few) in
     record {
       opening = subst IsLegalOpening (sym o) s.opening;
       own = subst (λ (x : Opening). AllByRecursion (IsOfOpening x) new.files) (sym o) (subst (AllByRecursion (IsOfOpening l.opening)) (sym files) (all_append (IsOfOpening l.opening) l.files taken s.own (headed_own l.opening l.newest fs taken t)));
+      legal = subst (AllByRecursion (λ h. IsTrue (is_legal_header h.header))) (sym files) (all_append (λ h. IsTrue (is_legal_header h.header)) l.files taken s.legal legal);
       some = omega (arith, size, s.some);
       few = omega (arith, size, newest, s.few);
       numbers =
@@ -144,9 +146,6 @@ pool_kept_parts cap (id ∷ own) at bytes pool c p r low =
 rests_kept : (cap : ℕ) (own : List ℕ) (at : ℕ) (bytes : List ℕ) (c : Content) (hs : List HeadedFile) → AllByRecursion (λ h. RestsThere h c.now.disk) hs → RestsBut own hs (with_parts cap own at bytes c).now.disk
 rests_kept cap own at bytes c [] r = tt
 rests_kept cap own at bytes c (h ∷ hs) r = (λ e. subst (IsAtRest h) (sym (others_parts cap h.id own at bytes c e)) r.0, rests_kept cap own at bytes c hs r.1)
-
-not_self : (a b : ℕ) → (a == b) ≡ false → a ≤ b → a < b
-not_self a b e h = grind (arith, nat_tests)
 
 module _ (l : LogState) (sound : IsSound l) (flushed : l.unsynced ≡ []) (pool left : PoolState) (taken : List HeadedFile) (fs : List FreshFile) (headers : AreHeaded l.opening l.newest fs taken)
     (legal : AllByRecursion (λ h. IsTrue (is_legal_header h.header)) taken) (bytes : List ℕ) (some : 0 < length bytes) (count : length taken ≡ (l.used + length bytes - 1) / capacity_in l.opening)

@@ -32,7 +32,7 @@ use Rattle.qls_log.specs.Standing.{files_on, HasFiles, AreThoseFiles, IsThatFile
 use Rattle.qls_log.specs.Appending.{from_newest, written_files, written_place}
 use Rattle.qls_log.proofs.Gains.{Resting, GainedAll, gained_all}
 use Rattle.qls_log.proofs.Laid.{AllLaid, parts_laid, those_length, others_parts}
-use Rattle.qls_log.proofs.Streams.{splice, HaveSameHeads, agree, batch_stands, stand_more, end_append, legal_held}
+use Rattle.qls_log.proofs.Streams.{splice, HaveSameHeads, agree, batch_stands, end_append, legal_held}
 
 -- ---- lists
 
@@ -99,10 +99,6 @@ all_used [] d k = tt
 all_used (h ∷ hs) d k = (used_of h (file_of h.id d) k.0, all_used hs d k.1)
 
 -- ---- records
-
-length_of_append : (rs qs : List Record) → length_of (rs ++ qs) ≡ length_of rs + length_of qs
-length_of_append [] qs = omega arith
-length_of_append (r ∷ rs) qs = ap (λ n. record_length Two r + n) (length_of_append rs qs) ∙ omega arith
 
 pub end_laid : (p : ℕ) (rs : List Record) → end_from p (laid_from p rs) ≡ p + length_of rs
 end_laid p [] = omega arith

@@ -23,8 +23,9 @@ use Rattle.qls_pool.proofs.Calls.{by_err}
 use Rattle.qls_log.specs.declared.opening.Opening.{Opening}
 use Rattle.qls_log.specs.Logs.{LogState, capacity_in}
 use Rattle.qls_log.specs.Writing.{AreInUse}
-use Rattle.qls_log.specs.Standing.{LogThere, HasFiles, RestsBut, files_on, AreThoseFiles, LastIsUnmarked, IsUnmarkedBehind, StandsWith}
-use Rattle.qls_meaning.specs.Reading.{Placed, begin_place}
+use Rattle.qls_log.specs.Standing.{LogThere, HasFiles, RestsBut, files_on, AreThoseFiles, LastIsUnmarked, IsUnmarkedBehind, StandsWith, end_of}
+use Rattle.qls_log.specs.Reads.{IsRead}
+use Rattle.qls_meaning.specs.Reading.{Placed, Read, begin_place, epoch_end, journal_reading}
 use Rattle.qls_laws.specs.Readings.{Stand}
 use Rattle.qls_log.specs.Appending.{SeesTheSame, StandsStill, IsQuietBut, ReadsInImages}
 use Rattle.qls_log.proofs.Splits.{full-sync}
@@ -288,3 +289,17 @@ told_still l ids r None None t = tt
 told_still l ids r None (Some y) t = absurd t
 told_still l ids r (Some x) None t = absurd t
 told_still l ids r (Some x) (Some y) t = λ kept k. still l kept x.now.disk y.now.disk (same_seen ids x y (synced_some ids r x y t)).files k
+
+read_same : (l : LogState) (reads : List Read) (d e : Disk) → full e ≡ full d → IsRead l reads d → IsRead (flushed l) reads e
+read_same l reads d e same r =
+    let files : files_on l.opening d ≡ files_on l.opening e = ap (λ (i : Image). (journal (map headed (in_use i)) l.opening.kind l.opening.name).files) (sym same) in
+    record {
+      reading = subst (λ (i : Image). journal_reading (journal (map headed (in_use i)) l.opening.kind l.opening.name) ≡ reads) (sym same) r.reading;
+      ends = subst (λ (fs : List Headed). epoch_end true fs ≡ end_of l) files r.ends;
+      behind = subst (LastIsUnmarked l.used) files r.behind;
+    }
+
+pub told_read : (l : LogState) (reads : List Read) (ids : List ℕ) (r : Result (Unit {0}) SiteError) (a b : Option Content) → Tells (Syncs ids r) a b → Carries (IsRead l reads) (IsRead (flushed l) reads) a b
+told_read l reads ids r None b t = tt
+told_read l reads ids r (Some x) None t = tt
+told_read l reads ids r (Some x) (Some y) t = read_same l reads x.now.disk y.now.disk (same_seen ids x y (synced_some ids r x y t)).files

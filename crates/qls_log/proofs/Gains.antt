@@ -175,7 +175,7 @@ last_then : (m : Moment) (xs ys : List Moment) → last_of m (xs ++ ys) ≡ last
 last_then m [] ys = refl
 last_then m (x ∷ xs) ys = last_then x xs ys
 
-unmarked_front : (m : Moment) (xs ys : List Moment) → AllUnmarked m (xs ++ ys) → AllUnmarked m xs
+pub unmarked_front : (m : Moment) (xs ys : List Moment) → AllUnmarked m (xs ++ ys) → AllUnmarked m xs
 unmarked_front m [] ys u = tt
 unmarked_front m (x ∷ xs) ys u = (u.0, unmarked_front x xs ys u.1)
 

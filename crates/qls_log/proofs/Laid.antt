@@ -201,23 +201,6 @@ linked_found h (Some f) k = (f, refl, k)
 size_writing : (at : ℕ) (bytes : List ℕ) (f : FileState) → at + length bytes ≤ size_of f → size_of (writing at bytes f) ≡ size_of f
 size_writing at bytes f h = ap length (one_more f.pending (record { at = at; bytes = bytes }) f.stable) ∙ length-written (record { at = at; bytes = bytes }) (all_written f.pending f.stable) h
 
-linked_writing : (g : HeadedFile) (id at : ℕ) (bytes : List ℕ) (o : Option FileState) → ((f : FileState) → o ≡ Some f → at + length bytes ≤ size_of f) → IsLinked g o → IsLinked g (option_map (changed id (writing at bytes)) o)
-linked_writing g id at bytes None fits k = absurd k
-linked_writing g id at bytes (Some f) fits k =
-    elim (f.id == id) as (λ b. IsLinked g (Some (cond b (writing at bytes f) f))) [
-      | true ↦ (k.0, record { size = size_writing at bytes f (fits f refl) ∙ k.1.size; stable = k.1.stable })
-      | false ↦ k
-    ]
-
-shows_writing : (id at : ℕ) (bytes : List ℕ) (o : Option FileState) → 4096 ≤ at → ((f : FileState) → o ≡ Some f → at + length bytes ≤ size_of f)
-    → take 4096 (seen_bytes (option_map (changed id (writing at bytes)) o)) ≡ take 4096 (seen_bytes o)
-shows_writing id at bytes None past fits = refl
-shows_writing id at bytes (Some f) past fits =
-    elim (f.id == id) as (λ b. take 4096 (seen_bytes (Some (cond b (writing at bytes f) f))) ≡ take 4096 (seen_bytes (Some f))) [
-      | true ↦ ap (take 4096) (one_more f.pending (record { at = at; bytes = bytes }) f.stable) ∙ front_kept (record { at = at; bytes = bytes }) (all_written f.pending f.stable) past (fits f refl)
-      | false ↦ refl
-    ]
-
 size_there : (cap : ℕ) (h : HeadedFile) (o : Option FileState) (f : FileState) → IsLinked h o → h.header.kib * 1024 ≡ cap → o ≡ Some f → 4096 + cap ≤ size_of f
 size_there cap h o f k is e = let l = subst (IsLinked h) e k in omega (arith, l.1.size, is)
 

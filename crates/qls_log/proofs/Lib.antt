@@ -13,3 +13,5 @@ pub mod Fits
 pub mod Appends
 pub mod Appended
 pub mod Stands
+pub mod Places
+pub mod Behind

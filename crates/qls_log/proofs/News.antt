@@ -1,5 +1,5 @@
 -- A new log.
-use Rattle.std.proofs.Common.{◌≡◌, inl, inr, ℕ, ◌+◌, ◌-◌, ◌*◌, ◌^◌, ◌<◌, ◌≤◌, Bool, true, false, cond, eqb, ltb, List, [], ◌∷◌, ◌++◌, map, length, drop, Option, Some, None, IfSome, IsTrue, refl, sym, ap, ◌∙◌, subst, arith, ⊎_elim}
+use Rattle.std.proofs.Common.{◌≡◌, inl, inr, ℕ, ◌+◌, ◌-◌, ◌*◌, ◌^◌, ◌<◌, ◌≤◌, Bool, true, false, cond, eqb, ltb, List, [], ◌∷◌, ◌++◌, map, length, drop, append-nil, Option, Some, None, IfSome, IsTrue, refl, sym, ap, ◌∙◌, subst, arith, ⊎_elim}
 use Rattle.std.proofs.lemmas.Bool.{cases_lt}
 use Rattle.std.proofs.Math.Seq.{drop-append_seam}
 use Rattle.std.specs.List.{AllByRecursion}
@@ -9,7 +9,7 @@ use Rattle.qls_filehdr.specs.declared.FileHeader.{FileHeader}
 use Rattle.qls_filehdr.specs.Limits.{is_legal_header}
 use Rattle.qls_filehdr.proofs.HeaderTrip.{legal_parts}
 use Rattle.qls_meaning.specs.Journals.{Headed, epochs}
-use Rattle.qls_meaning.specs.Reading.{Holder, Placed, holder, stream, begin_place, epoch_reading, located, journal_reading, reads_of}
+use Rattle.qls_meaning.specs.Reading.{Holder, Placed, holder, stream, begin_place, first_place, end_from, epoch_reading, located, journal_reading, reads_of}
 use Rattle.qls_meaning.specs.History.{AllUnmarked, IsUnmarked}
 use Rattle.qls_meaning.specs.Orderly.{journal_on}
 use Rattle.qls_laws.specs.Areas.{IsUnmarkedAt, IsUnmarkedFrom}
@@ -21,6 +21,7 @@ use Rattle.qls_log.specs.Logs.{LogState, capacity_in, AreHeaded, ids}
 use Rattle.qls_log.specs.Taking.{TakesFiles, MeetsEnd}
 use Rattle.qls_log.specs.Standing.{files_on, AreThoseFiles, IsThatFile, LogThere, StandsWith, IsUnmarkedBehind, LastIsUnmarked}
 use Rattle.qls_log.specs.Appending.{IsNew, new_log, ReadsNone, ReadsNothing, LeavesOthers}
+use Rattle.qls_log.specs.Reads.{BeginsReading}
 use Rattle.qls_log.proofs.Flushes.{all_but}
 use Rattle.qls_log.proofs.Gains.{Resting, has_files, GainedAll, gained_all, LastUnmarked, others_all, answered_all}
 
@@ -102,6 +103,26 @@ module _ (o : Opening) (pool left : PoolState) (h : HeadedFile) (a b : Content) 
       ap_serial : h.header.serial < 2 ^ 64 → one.0.header.serial < 2 ^ 64
       ap_serial s = subst (λ (x : FileHeader). x.serial < 2 ^ 64) (sym one.2.header) s
 
+  -- the reading of the new log ends at the front of its file
+  pub new_begins : 128 ≤ capacity_in o → BeginsReading (new_log o h) a b
+  new_begins room unmarked =
+      let nothing : ReadsNothing (new_log o h) b = new_reads room unmarked in
+      let none : epoch_reading true (files_on o b.now.disk) ≡ [] = no_reads (files_on o b.now.disk) (epoch_reading true (files_on o b.now.disk)) (sym (one_reading (files_on o b.now.disk) one.0 one.1) ∙ nothing.reading) in
+      record {
+        reading = nothing.reading;
+        ends = ap (end_from (first_place (files_on o b.now.disk))) none ∙ start_stands.begins ∙ start_stands.ends;
+        behind = nothing.behind;
+      }
+    where
+      no_reads : (fs : List Headed) (rs : List Placed) → map (located fs) rs ≡ [] → rs ≡ []
+      no_reads fs [] e = refl
+      no_reads fs (r ∷ rs) e = absurd (cc)
+
+      one_reading : (fs : List Headed) (f : Headed) → fs ≡ f ∷ [] → journal_reading (record { kind = o.kind; name = o.name; files = fs }) ≡ map (located fs) (epoch_reading true fs)
+      one_reading fs f e =
+          ap (λ (gs : List Headed). journal_reading (record { kind = o.kind; name = o.name; files = gs })) e ∙ append-nil (map (located (f ∷ [])) (epoch_reading true (f ∷ [])))
+          ∙ sym (ap (λ (gs : List Headed). map (located gs) (epoch_reading true gs)) e)
+
 -- ---- told
 
 module _ (o : Opening) (pool left : PoolState) (h : HeadedFile) (headed : AreHeaded o 0 (record { first = 4096; rid = 0 } ∷ []) (h ∷ [])) (legal : AllByRecursion (λ h. IsTrue (is_legal_header h.header)) (h ∷ [])) where
@@ -122,6 +143,12 @@ module _ (o : Opening) (pool left : PoolState) (h : HeadedFile) (headed : AreHea
   told_reads None (Some y) room t w n = absurd t
   told_reads (Some x) None room t w n = absurd t
   told_reads (Some x) (Some y) room t w n = new_reads o pool left h x y t headed legal w n room
+
+  pub told_begins : (a b : Option Content) → 128 ≤ capacity_in o → Tells (TakesFiles o.home pool left (h ∷ [])) a b → IfSome a (OnDisk (IsWholePool pool)) → IfSome a (OnDisk (λ d. files_on o d ≡ [])) → Tells (BeginsReading (new_log o h)) a b
+  told_begins None None room t w n = tt
+  told_begins None (Some y) room t w n = absurd t
+  told_begins (Some x) None room t w n = absurd t
+  told_begins (Some x) (Some y) room t w n = new_begins o pool left h x y t headed legal w n room
 
 pub told_others : (o : Opening) (pool left : PoolState) (taken : List HeadedFile) (newest : ℕ) (fs : List Rattle.qls_blocks.specs.declared.plan.FreshFile.FreshFile) → AreHeaded o newest fs taken
     → AllByRecursion (λ h. IsTrue (is_legal_header h.header)) taken → (a b : Option Content) → Tells (TakesFiles o.home pool left taken) a b → Tells (LeavesOthers taken) a b

@@ -1,5 +1,6 @@
 -- The records of a batch stand behind those of the batches before.
 use Rattle.std.proofs.Common.{◌≡◌, ℕ, zero, suc, ◌+◌, ◌-◌, ◌*◌, ◌/◌, ◌<◌, ◌≤◌, Bool, true, false, cond, ◌==◌, eqb, List, [], ◌∷◌, ◌++◌, map, length, take, drop, Option, Some, None, IfSome, IsTrue, refl, sym, ap, ap₂, ◌∙◌, subst, arith, length-append, length-take, length-drop, append_assoc, append-nil, take-append-drop}
+use Rattle.std.proofs.Math.Seq.{drop-drop, drop-append_seam}
 use Rattle.std.proofs.lemmas.Grind.{flat_map-append}
 use Rattle.std.proofs.lemmas.List.{take-append-le}
 use Rattle.std.specs.List.{AllByRecursion}
@@ -45,6 +46,15 @@ begins_again cap [] more fs gs some n s t b = absurd (omega (arith, n))
 begins_again cap (h ∷ hs) more [] gs some n s t b = absurd s
 begins_again cap (h ∷ hs) more (f ∷ fs) [] some n s t b = absurd t
 begins_again cap (h ∷ hs) more (f ∷ fs) (g ∷ gs) some n s t b = begin_step f g fs gs (t.0.header ∙ sym s.0.header) (omega (arith, s.0.area, some)) b
+
+-- a batch in the joined data areas: what lay before and behind it stays
+pub record Lies (l : LogState) (taken : List HeadedFile) (rs : List Record) (left : PoolState) (a mid b : Content) : Type 0 where
+  pub got : GainedAll l.opening l.files taken l.newest left a mid
+  pub laid : AllLaid l.opening (l.files ++ taken) (end_of l) (batch_bytes l taken rs) mid b
+  pub room : l.used + length_of (with_fillers rs) ≤ capacity_in l.opening * (length taken + 1)
+  pub agrees : AgreeUpTo (end_of l) (files_on l.opening a.now.disk) (files_on l.opening b.now.disk)
+  pub stands : Stand (files_on l.opening b.now.disk) (end_of l) (laid_from (end_of l) (with_fillers rs))
+  pub behind : drop (end_of l + length_of (with_fillers rs)) (stream (files_on l.opening b.now.disk)) ≡ drop (end_of l + length_of (with_fillers rs)) (stream (files_on l.opening mid.now.disk))
 
 module _ (l : LogState) (sound : IsSound l) (flushed : l.unsynced ≡ []) (pool left : PoolState) (taken : List HeadedFile) (fs : List FreshFile) (headers : AreHeaded l.opening l.newest fs taken)
     (legal : AllByRecursion (λ h. IsTrue (is_legal_header h.header)) taken) (rs : List Record) (records : AllByRecursion (λ r. IsTrue (is_legal Two r)) (with_fillers rs))
@@ -170,7 +180,7 @@ module _ (l : LogState) (sound : IsSound l) (flushed : l.unsynced ≡ []) (pool 
         (batch_stands B (end_of l) (with_fillers rs) (drop (end_of l + length bytes) (stream M)) (all_legal B (end_of l) (with_fillers rs) records fits_batch)
         (ap (drop (end_of l)) laid_all.stream ∙ drop_splice (end_of l) bytes (stream M) M_fits ∙ ap (λ (x : List ℕ). x ++ drop (end_of l + length bytes) (stream M)) (sym spelled)))
 
-    new_end : end_of l + length_of (with_fillers rs) ≡ end_of new
+    pub new_end : end_of l + length_of (with_fillers rs) ≡ end_of new
     new_end =
         let n : ℕ = length l.files - 1 in
         let size : length new.files - 1 ≡ n + length taken = ap (λ (hs : List HeadedFile). length hs - 1) files ∙ ap (λ k. k - 1) (length-append l.files taken) ∙ omega (arith, sound.some) in
@@ -179,6 +189,15 @@ module _ (l : LogState) (sound : IsSound l) (flushed : l.unsynced ≡ []) (pool 
       where
         split : (m k c : ℕ) → (m + k) * c ≡ m * c + k * c
         split m k c = grind arith
+
+    behind_same : drop (end_of l + length_of (with_fillers rs)) (stream B) ≡ drop (end_of l + length_of (with_fillers rs)) (stream M)
+    behind_same =
+        let rest : List ℕ = drop (end_of l + length bytes) (stream M) in
+        ap (λ n. drop (end_of l + n) (stream B)) (sym size_of_batch) ∙ sym (drop-drop (length bytes) (end_of l) (stream B))
+        ∙ ap (drop (length bytes)) (ap (drop (end_of l)) laid_all.stream ∙ drop_splice (end_of l) bytes (stream M) M_fits) ∙ drop-append_seam bytes rest ∙ ap (λ n. drop (end_of l + n) (stream M)) size_of_batch
+
+    pub lies : Lies l taken rs left a mid b
+    lies = record { got = got; laid = laid_all; room = omega (arith, whole_room, size_of_batch); agrees = agrees; stands = batch_there; behind = behind_same }
 
     pub stands_after : StandsBehind rs l new a b
     stands_after = λ kept k.

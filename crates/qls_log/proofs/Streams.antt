@@ -72,7 +72,7 @@ front_step f p x y false e h = h refl
 not_less : (p s : ℕ) → ltb p s ≡ false → s ≤ p
 not_less p s h = grind arith
 
-holder_front : (fs more : List Headed) (p : ℕ) → p < length (stream fs) → holder (fs ++ more) p ≡ holder fs p
+pub holder_front : (fs more : List Headed) (p : ℕ) → p < length (stream fs) → holder (fs ++ more) p ≡ holder fs p
 holder_front [] more p h = absurd (omega arith)
 holder_front (f ∷ fs) more p h =
     front_step f p (holder (fs ++ more) (p - length f.area)) (holder fs (p - length f.area)) (ltb p (length f.area)) refl
@@ -113,7 +113,7 @@ legal_held o r h legal = subst (λ x. IsTrue (held_legal x r)) (sym h.is) legal
 
 -- ---- joined
 
-stand_append : (fs : List Headed) (p : ℕ) (xs ys : List Placed) → Stand fs p xs → Stand fs (end_from p xs) ys → Stand fs p (xs ++ ys)
+pub stand_append : (fs : List Headed) (p : ℕ) (xs ys : List Placed) → Stand fs p xs → Stand fs (end_from p xs) ys → Stand fs p (xs ++ ys)
 stand_append fs p [] ys h k = k
 stand_append fs p (x ∷ xs) ys h k = (h.0, h.1, h.2, stand_append fs x.after xs ys h.3 k)
 
@@ -131,10 +131,6 @@ stand_more limit fs gs kept more agrees stand ends batch =
 none_spelled : (fs : List Headed) (p : ℕ) → record_in fs p ≡ None → (r : Record) → Rattle.qls_laws.specs.Readings.IsSpelledAt fs p r → ⊥
 none_spelled fs p none r s = let e = read_where_spelled fs p r s in absurd (cc)
 
-is_reading : (fs : List Headed) (p : ℕ) (rs : List Placed) → Stand fs p rs → record_in fs (end_from p rs) ≡ None → IsReading fs p rs
+pub is_reading : (fs : List Headed) (p : ℕ) (rs : List Placed) → Stand fs p rs → record_in fs (end_from p rs) ≡ None → IsReading fs p rs
 is_reading fs p [] h none = none_spelled fs p none
 is_reading fs p (r ∷ rs) h none = (h.0, spelled_where_read fs p r.what h.1, h.2, is_reading fs r.after rs h.3 none)
-
--- what stands from the beginning up to a place where nothing does is the reading
-pub reading_is : (fs : List Headed) (rs : List Placed) → begin_place true fs ≡ 0 → Stand fs 0 rs → record_in fs (end_from 0 rs) ≡ None → epoch_reading true fs ≡ rs
-reading_is fs rs begins h none = sym (epoch_only_reading true fs rs (subst (λ p. IsReading fs p rs) (sym begins) (is_reading fs 0 rs h none)))

@@ -5,3 +5,4 @@ pub mod Writing
 pub mod Spots
 pub mod Standing
 pub mod Appending
+pub mod Reads

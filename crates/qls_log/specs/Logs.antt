@@ -1,9 +1,9 @@
 -- What a log knows: its files of this opening, and where its next batch goes.
-use Rattle.std.specs.Prelude.{◌≡◌, ℕ, ◌+◌, ◌-◌, ◌*◌, ◌%◌, ◌^◌, ◌<◌, ◌≤◌, Bool, true, false, List, [], ◌∷◌, map, length}
+use Rattle.std.specs.Prelude.{◌≡◌, ℕ, ◌+◌, ◌-◌, ◌*◌, ◌%◌, ◌^◌, ◌<◌, ◌≤◌, Bool, true, false, List, [], ◌∷◌, map, length, IsTrue}
 use Rattle.std.specs.List.{AllByRecursion}
 use Rattle.qls_model.specs.Limits.{is_partition, is_kib}
 use Rattle.qls_filehdr.specs.declared.FileHeader.{FileHeader}
-use Rattle.qls_filehdr.specs.Limits.{is_name, is_counter, is_first_place}
+use Rattle.qls_filehdr.specs.Limits.{is_name, is_counter, is_first_place, is_legal_header}
 use Rattle.qls_blocks.specs.declared.plan.FreshFile.{FreshFile}
 use Rattle.qls_pool.specs.Files.{HeadedFile}
 use Rattle.qls_log.specs.declared.opening.Opening.{Opening}
@@ -71,6 +71,7 @@ IsOfOpening o h = h.header ≡ header_for o h.header.serial h.header.number (rec
 pub record IsSound (l : LogState) : Type 0 where
   pub opening : IsLegalOpening l.opening
   pub own : AllByRecursion (IsOfOpening l.opening) l.files
+  pub legal : AllByRecursion (λ h. IsTrue (is_legal_header h.header)) l.files
   pub some : 0 < length l.files
   pub few : length l.files ≤ l.newest
   pub numbers : NumberedFrom (l.newest + 1 - length l.files) l.files l.newest

@@ -6,7 +6,8 @@ use Rattle.qls_log.specs.declared.fault.LogError.{LogError}
 use Rattle.qls_log.specs.Logs.{LogState}
 use Rattle.qls_log.specs.Standing.{LogThere, IsUnmarkedBehind}
 use Rattle.qls_log.specs.Appending.{StandsStill, IsQuietBut, ReadsInImages}
-use Rattle.qls_log.proofs.Flushes.{there_are, waiting_of, told_same, told_pool, told_quiet, told_images, told_there, told_still, told_behind, told_orderly_ok, told_orderly_err}
+use Rattle.qls_log.specs.Reads.{IsRead}
+use Rattle.qls_log.proofs.Flushes.{there_are, waiting_of, told_same, told_pool, told_quiet, told_images, told_there, told_still, told_read, told_behind, told_orderly_ok, told_orderly_err}
 use Rattle.qls_log.proofs.log.Log.flush.Goals as goal
 
 pub sync_parts-requires : goal.sync_parts-requires
@@ -41,6 +42,11 @@ pub returns-clause-behind : goal.returns-clause-behind
 returns-clause-behind g c =
     subst (λ (l : LogState). Carries (IsUnmarkedBehind c.args.self.now) (IsUnmarkedBehind l) (g.S.Site.told c.args.site.now) (g.S.Site.told c.sync_parts.new.site)) (sym (returns-clause-log g c))
     (told_behind c.args.self.now c.self.inside.unsynced (Ok c.in_ok-sync_parts.field-0) _ _ c.in_ok-sync_parts.ensures.told)
+
+pub returns-clause-read : goal.returns-clause-read
+returns-clause-read g c = λ reads.
+    subst (λ (l : LogState). Carries (IsRead c.args.self.now reads) (IsRead l reads) (g.S.Site.told c.args.site.now) (g.S.Site.told c.sync_parts.new.site)) (sym (returns-clause-log g c))
+    (told_read c.args.self.now reads c.self.inside.unsynced (Ok c.in_ok-sync_parts.field-0) _ _ c.in_ok-sync_parts.ensures.told)
 
 pub returns-clause-pool : goal.returns-clause-pool
 returns-clause-pool g c = λ pool out. told_pool c.self.inside.unsynced (Ok c.in_ok-sync_parts.field-0) pool out _ _ c.in_ok-sync_parts.ensures.told
