@@ -1,17 +1,13 @@
 -- A log behind a batch.
-use Rattle.std.proofs.Common.{◌≡◌, ◌⊎◌, inl, inr, ℕ, zero, suc, ◌+◌, ◌-◌, ◌*◌, ◌/◌, ◌%◌, ◌^◌, ◌<◌, ◌≤◌, Bool, true, false, cond, ◌==◌, ◌||◌, List, [], ◌∷◌, ◌++◌, map, length, take, drop, Option, Some, None, IfSome, IsTrue, refl, sym, ap, ap₂, ◌∙◌, subst, arith, length-append, length-take, length-drop, append_assoc, append-nil, take-append-drop}
+use Rattle.std.proofs.Common.{◌≡◌, ℕ, zero, suc, ◌+◌, ◌-◌, ◌*◌, ◌/◌, ◌%◌, ◌^◌, ◌<◌, ◌≤◌, Bool, true, false, cond, ◌==◌, ◌||◌, List, [], ◌∷◌, ◌++◌, length, take, drop, Option, Some, None, IfSome, IsTrue, refl, sym, ap, ◌∙◌, subst, arith, length-append, length-take, length-drop}
 use Rattle.std.proofs.lemmas.Bool.{and_parts, eqb-true, leb-true}
 use Rattle.std.proofs.Math.Seq.{drop-append_seam, drop-drop}
 use Rattle.std.specs.List.{AllByRecursion}
-use Rattle.qls_model.specs.Limits.{is_kib}
-use Rattle.qls_record.specs.Record.{Record, is_legal}
-use Rattle.qls_site.specs.Disk.{Disk, FileState, file_of, size_of}
-use Rattle.qls_site.specs.Content.{Moment, Content, Tells, InFile}
+use Rattle.qls_record.specs.Record.{Record}
+use Rattle.qls_site.specs.Disk.{FileState, file_of, size_of}
+use Rattle.qls_site.specs.Content.{Content, Tells, InFile}
 use Rattle.qls_filehdr.specs.declared.FileHeader.{FileHeader}
 use Rattle.qls_filehdr.specs.Limits.{is_legal_header}
-use Rattle.qls_meaning.specs.Journals.{Headed}
-use Rattle.qls_meaning.specs.Reading.{Placed, stream, spelled_from, placed_from, end_from}
-use Rattle.qls_laws.specs.Readings.{Stand, LegalFrom, AgreeUpTo}
 use Rattle.qls_blocks.specs.declared.plan.FreshFile.{FreshFile}
 use Rattle.qls_blocks.specs.Batching.{length_of, block_length, with_fillers}
 use Rattle.qls_blocks.specs.Spelled.{spelled_over}
@@ -21,8 +17,8 @@ use Rattle.qls_log.specs.declared.opening.Opening.{Opening}
 use Rattle.qls_log.specs.Logs.{LogState, IsSound, IsLegalOpening, IsOfOpening, AreHeaded, NumberedFrom, capacity_in, ids, serials, header_for}
 use Rattle.qls_log.specs.Taking.{TakesFiles}
 use Rattle.qls_log.specs.Writing.{HaveRoom, AreInUse, WritesAll, with_parts, with_write, from_written}
-use Rattle.qls_log.specs.Standing.{files_on, HasFiles, AreThoseFiles, LogThere, RestsBut}
-use Rattle.qls_log.specs.Appending.{from_newest, written_files, written_place, batch_bytes, HasAppended, TakesAndWrites, LeavesOthers}
+use Rattle.qls_log.specs.Standing.{HasFiles, LogThere, RestsBut}
+use Rattle.qls_log.specs.Appending.{from_newest, written_files, written_place, batch_bytes, TakesAndWrites, LeavesOthers}
 use Rattle.qls_log.proofs.Gains.{GainedAll}
 use Rattle.qls_log.proofs.Appends.{gains, sized, room, all_append, all_drop, all_used, enough_room, cut_last}
 use Rattle.qls_log.proofs.Gains.{has_files, others_all, answered_all}
@@ -31,7 +27,6 @@ use Rattle.qls_blocks.proofs.Spelling.{length-spelled_over}
 use Rattle.qls_log.proofs.Laid.{parts_laid, others_parts}
 use Rattle.qls_log.proofs.Writes.{room_all, size_after}
 use Rattle.qls_pool.proofs.Disks.{pool_kept, eqb_is}
-use Rattle.std.proofs.lemmas.Bool.Decides.{nat_tests}
 
 pub sound_capacity : (o : Opening) → IsLegalOpening o → (0 < capacity_in o) × (capacity_in o % 4096 ≡ 0)
 sound_capacity o h =

@@ -1,38 +1,32 @@
 -- A batch that is appended: what stands in the journal then.
-use Rattle.std.proofs.Common.{◌≡◌, ◌⊎◌, inl, inr, ℕ, zero, suc, ◌+◌, ◌-◌, ◌*◌, ◌/◌, ◌%◌, ◌^◌, ◌<◌, ◌≤◌, Bool, true, false, cond, ◌==◌, List, [], ◌∷◌, ◌++◌, map, length, take, drop, Option, Some, None, IfSome, IsTrue, refl, sym, ap, ap₂, ◌∙◌, subst, arith, length-append, length-take, length-drop, append_assoc, append-nil, take-append-drop}
-use Rattle.std.proofs.lemmas.Bool.Decides.{nat_tests}
-use Rattle.std.proofs.lemmas.Grind.{flat_map-append}
-use Rattle.std.proofs.lemmas.List.{take-append-le, map-append}
+use Rattle.std.proofs.Common.{◌≡◌, ◌⊎◌, inl, inr, ℕ, zero, suc, ◌+◌, ◌-◌, ◌*◌, ◌/◌, ◌<◌, ◌≤◌, true, List, [], ◌∷◌, ◌++◌, map, length, take, drop, Option, Some, None, IsTrue, refl, sym, ap, ap₂, ◌∙◌, subst, arith, length-append, length-take, append_assoc, take-append-drop}
 use Rattle.std.proofs.Math.Nat.{le-div_iff_mul-le, mul_comm}
 use Rattle.std.proofs.Math.Seq.{drop-append_seam, take-append_seam}
 use Rattle.std.specs.List.{AllByRecursion}
 use Rattle.qls_shape.specs.declared.Version.TheVariants.{Two}
 use Rattle.qls_record.specs.Record.{Record, is_legal, record_length}
-use Rattle.qls_site.specs.Disk.{Disk, FileState, file_of, size_of}
-use Rattle.qls_site.specs.Content.{Moment, Content, Tells, HasRange, InFile}
+use Rattle.qls_site.specs.Disk.{Disk, FileState, file_of}
+use Rattle.qls_site.specs.Content.{Content, InFile}
 use Rattle.qls_filehdr.specs.declared.FileHeader.{FileHeader}
 use Rattle.qls_filehdr.specs.Limits.{is_legal_header}
 use Rattle.qls_meaning.specs.Journals.{Headed, is_in_use}
 use Rattle.qls_meaning.specs.History.{is_file_in_use}
 use Rattle.qls_meaning.specs.Reading.{Placed, stream, spelled_from, placed_from, end_from, length_in, held_length}
-use Rattle.qls_laws.specs.Readings.{Stand, LegalFrom, AgreeUpTo}
+use Rattle.qls_laws.specs.Readings.{LegalFrom}
 use Rattle.qls_blocks.specs.declared.plan.FreshFile.{FreshFile}
-use Rattle.qls_blocks.specs.Batching.{length_of, laid_from, with_fillers}
-use Rattle.qls_blocks.specs.Spelled.{spelled_over}
+use Rattle.qls_blocks.specs.Batching.{length_of, laid_from}
 use Rattle.qls_blocks.specs.Laws.{HaveCapacity, serials_of}
-use Rattle.qls_blocks.proofs.Stream.{spelled_behind, placed-laid, is_held}
-use Rattle.qls_blocks.proofs.Spelling.{length-spelled_over}
+use Rattle.qls_blocks.proofs.Stream.{is_held}
 use Rattle.qls_pool.specs.Pools.{PoolState}
-use Rattle.qls_pool.specs.Files.{HeadedFile, IsAtRest, IsLinked, LinkedThere, RestsThere, IsPoolOf, is_among}
+use Rattle.qls_pool.specs.Files.{HeadedFile, IsAtRest, IsLinked, LinkedThere, RestsThere, IsPoolOf}
 use Rattle.qls_log.specs.declared.opening.Opening.{Opening}
 use Rattle.qls_log.specs.Logs.{LogState, IsSound, IsOfOpening, AreHeaded, capacity_in, ids, serials}
 use Rattle.qls_log.specs.Taking.{TakesFiles}
-use Rattle.qls_log.specs.Writing.{HaveRoom, AreInUse, with_parts, from_written}
-use Rattle.qls_log.specs.Standing.{files_on, HasFiles, AreThoseFiles, IsThatFile, LogThere, RestsBut}
-use Rattle.qls_log.specs.Appending.{from_newest, written_files, written_place}
+use Rattle.qls_log.specs.Writing.{HaveRoom, AreInUse}
+use Rattle.qls_log.specs.Standing.{AreThoseFiles, LogThere, RestsBut}
+use Rattle.qls_log.specs.Appending.{from_newest}
 use Rattle.qls_log.proofs.Gains.{Resting, GainedAll, gained_all}
-use Rattle.qls_log.proofs.Laid.{AllLaid, parts_laid, those_length, others_parts}
-use Rattle.qls_log.proofs.Streams.{splice, HaveSameHeads, agree, batch_stands, end_append, legal_held}
+use Rattle.qls_log.proofs.Streams.{splice, HaveSameHeads, legal_held}
 
 -- ---- lists
 

@@ -1,13 +1,10 @@
 -- What is read behind a batch.
-use Rattle.std.proofs.Common.{◌≡◌, ◌⊎◌, inl, inr, ℕ, zero, suc, ◌+◌, ◌-◌, ◌*◌, ◌%◌, ◌/◌, ◌^◌, ◌<◌, ◌≤◌, Bool, true, false, cond, ◌&&◌, ◌||◌, ◌==◌, eqb, ltb, nat_lt, nat_le, List, [], ◌∷◌, ◌++◌, map, length, take, drop, replicate, Option, Some, None, IfSome, IsTrue, refl, sym, ap, ap₂, ◌∙◌, subst, arith, length-append, append_assoc, append-nil, drop-drop}
+use Rattle.std.proofs.Common.{◌≡◌, ◌⊎◌, inl, inr, ℕ, zero, suc, ◌+◌, ◌-◌, ◌*◌, ◌%◌, ◌/◌, ◌^◌, ◌<◌, ◌≤◌, Bool, true, false, cond, ◌&&◌, ◌||◌, ◌==◌, eqb, ltb, nat_le, List, [], ◌∷◌, ◌++◌, map, length, take, drop, Option, Some, None, IfSome, IsTrue, refl, sym, ap, ap₂, ◌∙◌, subst, arith, length-append, append_assoc, append-nil}
 use Rattle.std.proofs.Math.Seq.{drop-append_seam}
-use Rattle.std.proofs.lemmas.Grind.{flat_map-append}
-use Rattle.std.proofs.lemmas.List.{take-append-le, map-append}
+use Rattle.std.proofs.lemmas.List.{map-append}
 use Rattle.std.specs.List.{AllByRecursion}
 use Rattle.qls_shape.specs.declared.Version.TheVariants.{Two}
-use Rattle.qls_record.specs.declared.Kind.TheVariants.{Filler}
-use Rattle.qls_record.specs.Record.{Record, record_length, is_legal, implies, above_target, may_be_flagged, least_xid, most_xid, most_props, most_body}
-use Rattle.qls_site.specs.Disk.{Disk}
+use Rattle.qls_record.specs.Record.{Record, record_length, is_legal}
 use Rattle.qls_site.specs.Content.{Moment, Content, Tells, moments_since}
 use Rattle.qls_filehdr.specs.declared.FileHeader.{FileHeader}
 use Rattle.qls_filehdr.specs.Limits.{is_legal_header}
@@ -18,18 +15,16 @@ use Rattle.qls_blocks.specs.Plans.{plan_of, fresh_file, fresh_count, starts}
 use Rattle.qls_pool.proofs.Disks.{eqb_is}
 use Rattle.qls_filehdr.proofs.HeaderTrip.{legal_parts, most_of}
 use Rattle.qls_meaning.specs.Journals.{Headed}
-use Rattle.qls_meaning.specs.Reading.{Placed, Read, stream, record_in, spelled_from, placed_from, end_from, first_place, epoch_reading, epoch_end, located, journal_reading}
+use Rattle.qls_meaning.specs.Reading.{Placed, Read, stream, record_in, end_from, first_place, epoch_reading, epoch_end, located, journal_reading}
 use Rattle.qls_meaning.specs.History.{AllUnmarked}
 use Rattle.qls_meaning.specs.Orderly.{journal_on}
-use Rattle.qls_laws.specs.Readings.{Stand, LegalFrom, AgreeUpTo}
+use Rattle.qls_laws.specs.Readings.{Stand}
 use Rattle.qls_laws.specs.Areas.{IsUnmarkedAt}
 use Rattle.qls_laws.proofs.Reaches.{records_stand, stand_there}
 use Rattle.qls_laws.proofs.Unmarked.{none_unmarked}
 use Rattle.qls_blocks.specs.declared.plan.FreshFile.{FreshFile}
-use Rattle.qls_blocks.specs.Batching.{length_of, filler_of, filler_count, last_rid, laid_from, places_from, block_length, with_fillers}
-use Rattle.qls_blocks.specs.Spelled.{spelled_over}
+use Rattle.qls_blocks.specs.Batching.{length_of, laid_from, places_from, block_length, with_fillers}
 use Rattle.qls_blocks.specs.Laws.{HaveCapacity}
-use Rattle.qls_blocks.proofs.Stream.{spelled_behind, placed-laid}
 use Rattle.qls_blocks.proofs.Spelling.{length-spelled_over}
 use Rattle.qls_pool.specs.Pools.{PoolState}
 use Rattle.qls_pool.specs.Files.{HeadedFile, IsPoolOf, OnDisk}
@@ -40,12 +35,12 @@ use Rattle.qls_log.specs.Writing.{WritesAll, with_parts, with_write}
 use Rattle.qls_log.specs.Standing.{files_on, end_of, AreThoseFiles, LogThere, LastIsUnmarked}
 use Rattle.qls_log.specs.Appending.{from_newest, batch_bytes, written_files, written_place}
 use Rattle.qls_log.specs.Reads.{IsRead, ReadsOn, batch_reads, read_in}
-use Rattle.qls_log.proofs.Gains.{GainedAll, LastUnmarked, unmarked_front}
-use Rattle.qls_log.proofs.Laid.{AllLaid, those_length}
-use Rattle.qls_log.proofs.Appends.{those_split, same_heads, all_capacity, same_serials, end_laid, all_legal, take_splice, drop_splice, cut_last, what_laid}
+use Rattle.qls_log.proofs.Gains.{LastUnmarked, unmarked_front}
+use Rattle.qls_log.proofs.Laid.{those_length}
+use Rattle.qls_log.proofs.Appends.{those_split, same_heads, all_capacity, end_laid, cut_last, what_laid}
 use Rattle.qls_log.proofs.Appended.{sound_capacity, tail_length}
 use Rattle.qls_log.proofs.Stands.{Lies, lies, new_end}
-use Rattle.qls_log.proofs.Streams.{HaveSameHeads, agree, batch_stands, stand_append, end_append}
+use Rattle.qls_log.proofs.Streams.{HaveSameHeads, stand_append, end_append}
 use Rattle.qls_log.proofs.Places.{HaveEpoch, CountFrom, reading_of_run, reading_from, FirstFits, first_again, stand_end, all_located, count_of, laid_located, later_unmarked, unmarked_again, unmarked_end}
 
 -- ---- the records of a batch

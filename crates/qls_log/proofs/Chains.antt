@@ -1,11 +1,10 @@
 -- Files taken one after another.
-use Rattle.std.proofs.Common.{◌≡◌, ℕ, zero, suc, ◌+◌, ◌-◌, ◌^◌, ◌<◌, ◌≤◌, List, [], ◌∷◌, ◌++◌, map, length, take, drop, Option, Some, None, Result, Ok, Err, IfSome, IsTrue, refl, sym, ap, ◌∙◌, subst, arith}
+use Rattle.std.proofs.Common.{◌≡◌, ℕ, zero, suc, ◌+◌, List, [], ◌∷◌, ◌++◌, length, take, Option, Some, None, Result, Ok, Err, refl, sym, ap, ◌∙◌, subst, arith}
 use Rattle.std.specs.Prelude.{slice_get}
 use Rattle.std.specs.List.{AllByRecursion}
 use Rattle.qls_model.specs.declared.machine.PoolId.{PoolId}
-use Rattle.qls_site.specs.declared.serials.DrawError.{DrawError}
 use Rattle.qls_site.specs.Disk.{Disk}
-use Rattle.qls_site.specs.Content.{Moment, Content, Tells, Draws}
+use Rattle.qls_site.specs.Content.{Content, Tells}
 use Rattle.qls_blocks.specs.declared.plan.FreshFile.{FreshFile}
 use Rattle.qls_pool.specs.Pools.{PoolState}
 use Rattle.qls_pool.specs.Files.{HeadedFile, IsPoolOf, IsWholePool, IdsDiffer, Carries}

@@ -1,5 +1,5 @@
 -- What a batch plans for its files is within the limits.
-use Rattle.std.proofs.Common.{◌≡◌, ℕ, zero, suc, ◌+◌, ◌-◌, ◌*◌, ◌/◌, ◌%◌, ◌^◌, ◌<◌, ◌≤◌, Bool, true, false, cond, ◌&&◌, ◌||◌, ltb, leb, eqb, List, [], ◌∷◌, ◌++◌, map, length, replicate, IsTrue, refl, sym, ap, ap₂, ◌∙◌, subst, arith}
+use Rattle.std.proofs.Common.{◌≡◌, ℕ, zero, suc, ◌+◌, ◌-◌, ◌*◌, ◌%◌, ◌^◌, ◌<◌, ◌≤◌, Bool, true, false, cond, ◌&&◌, ◌||◌, ltb, leb, eqb, List, [], ◌∷◌, ◌++◌, map, length, replicate, IsTrue, refl, sym, ◌∙◌, subst, arith}
 use Rattle.std.proofs.lemmas.Bool.{le-leb, lt-ltb}
 use Rattle.std.proofs.lemmas.Bool.Decides.{nat_tests}
 use Rattle.std.specs.List.{AllByRecursion}
@@ -8,11 +8,9 @@ use Rattle.qls_shape.specs.Lengths.{padded_length}
 use Rattle.qls_shape.specs.declared.Version.TheVariants.{Two}
 use Rattle.qls_record.specs.Record.{Record, record_length, is_enqueue, is_legal}
 use Rattle.qls_filehdr.specs.Limits.{is_first_place}
-use Rattle.qls_meaning.specs.Reading.{Placed}
 use Rattle.qls_meaning.specs.Damage.{first_in, rid_before}
 use Rattle.qls_blocks.specs.declared.plan.Plan.{Plan}
-use Rattle.qls_blocks.specs.declared.plan.FreshFile.{FreshFile}
-use Rattle.qls_blocks.specs.Batching.{length_of, filler_count, filler_of, last_rid, with_fillers, laid_from, places_from}
+use Rattle.qls_blocks.specs.Batching.{filler_count, filler_of, last_rid, with_fillers, laid_from, places_from}
 use Rattle.qls_blocks.specs.Plans.{fresh_file, starts, plan_of}
 use Rattle.qls_log.specs.Logs.{FitsFile}
 use Rattle.qls_log.specs.Appending.{FollowRids}

@@ -1,29 +1,26 @@
 -- One sync after another, and what they leave.
-use Rattle.std.proofs.Common.{◌≡◌, ℕ, zero, suc, ◌+◌, ◌-◌, ◌*◌, ◌<◌, ◌≤◌, Bool, true, false, cond, ◌||◌, ◌==◌, List, [], ◌∷◌, ◌++◌, map, length, take, drop, Option, Some, None, Result, Ok, Err, IfSome, IfOk, IsErr, IsSome, refl, sym, ap, ap₂, ◌∙◌, subst, arith, option_map}
+use Rattle.std.proofs.Common.{◌≡◌, ℕ, Bool, true, false, cond, ◌||◌, ◌==◌, List, [], ◌∷◌, map, take, Option, Some, None, Result, Ok, Err, IfSome, IsErr, IsSome, refl, sym, ap, ap₂, ◌∙◌, subst, arith, option_map}
 use Rattle.std.specs.List.{AllByRecursion}
 use Rattle.qls_site.specs.declared.site.SiteError.{SiteError}
 use Rattle.qls_site.specs.declared.site.SiteError.TheVariants.{Failed, Memory}
-use Rattle.qls_site.specs.declared.site.Place.TheVariants.{InUse}
-use Rattle.qls_site.specs.Disk.{Disk, Image, IsImage, FileState, file_of, full, IsQuiet, changed, change_file, all_written, sync_at, size_of, bytes_at, seen_bytes}
-use Rattle.qls_site.specs.Content.{Moment, Content, Tells, Acts, Stays, Leads, HasFile, on_disk}
+use Rattle.qls_site.specs.Disk.{Disk, Image, FileState, file_of, full, IsQuiet, changed, all_written, sync_at, bytes_at, seen_bytes}
+use Rattle.qls_site.specs.Content.{Content, Tells, Stays, Leads, on_disk}
 use Rattle.qls_site.proofs.Told.{file_of-change_file}
 use Rattle.qls_site.proofs.DiskLaws.{only_image}
 use Rattle.qls_filehdr.specs.Header.{header_spelling}
-use Rattle.qls_meaning.specs.Journals.{Headed, is_in_use, journal, headed, in_use}
+use Rattle.qls_meaning.specs.Journals.{Headed, journal, headed, in_use}
 use Rattle.qls_meaning.specs.History.{is_file_in_use}
-use Rattle.qls_meaning.specs.Orderly.{journal_on}
 use Rattle.qls_meaning.specs.Kept.{Differ, ids_of}
 use Rattle.qls_blocks.specs.Parts.{HasFiles as ThereAre, Syncs, with_sync, with_syncs}
 use Rattle.qls_pool.specs.Pools.{PoolState}
 use Rattle.qls_pool.specs.Files.{HeadedFile, LinkedThere, RestsThere, IsLinked, IsAtRest, IdsDiffer, IsPoolOf, OnDisk, Carries, is_among}
-use Rattle.qls_pool.specs.Discipline.{EndsPoolSteps, AddsPoolSteps, StepsBy, Orderly}
+use Rattle.qls_pool.specs.Discipline.{EndsPoolSteps, AddsPoolSteps, Orderly}
 use Rattle.qls_pool.proofs.Disks.{pool_kept}
 use Rattle.qls_pool.proofs.Steps.{ends_one, ends_none, ends_then, ends_adds, adds_none}
 use Rattle.qls_pool.proofs.Calls.{by_err}
-use Rattle.qls_log.specs.declared.opening.Opening.{Opening}
 use Rattle.qls_log.specs.Logs.{LogState, capacity_in}
 use Rattle.qls_log.specs.Writing.{AreInUse}
-use Rattle.qls_log.specs.Standing.{LogThere, HasFiles, RestsBut, files_on, AreThoseFiles, LastIsUnmarked, IsUnmarkedBehind, StandsWith, end_of}
+use Rattle.qls_log.specs.Standing.{LogThere, RestsBut, files_on, AreThoseFiles, LastIsUnmarked, IsUnmarkedBehind, StandsWith, end_of}
 use Rattle.qls_log.specs.Reads.{IsRead}
 use Rattle.qls_meaning.specs.Reading.{Placed, Read, begin_place, epoch_end, journal_reading}
 use Rattle.qls_laws.specs.Readings.{Stand}

@@ -1,14 +1,13 @@
 -- The journal's files, as more of them are taken.
-use Rattle.std.proofs.Common.{◌≡◌, ℕ, zero, suc, ◌+◌, ◌-◌, ◌*◌, ◌<◌, ◌≤◌, Bool, true, false, ◌==◌, ◌||◌, List, [], ◌∷◌, ◌++◌, map, length, take, drop, Option, Some, None, IfSome, IsTrue, refl, sym, ap, ◌∙◌, subst, arith, append_assoc, append-nil}
+use Rattle.std.proofs.Common.{◌≡◌, ℕ, ◌+◌, ◌≤◌, Bool, true, false, ◌==◌, ◌||◌, List, [], ◌∷◌, ◌++◌, Option, Some, None, IsTrue, refl, sym, ap, ◌∙◌, subst, arith, append_assoc, append-nil}
 use Rattle.std.proofs.lemmas.Bool.Decides.{nat_tests}
 use Rattle.std.specs.List.{AllByRecursion}
 use Rattle.qls_model.specs.declared.machine.PoolId.{PoolId}
 use Rattle.qls_site.specs.declared.site.Place.TheVariants.{InUse, Empty}
-use Rattle.qls_site.specs.Disk.{Disk, FileState, file_of, bytes_at, seen_bytes}
-use Rattle.qls_site.specs.Content.{Moment, Content, Tells}
+use Rattle.qls_site.specs.Disk.{Disk, FileState, file_of}
+use Rattle.qls_site.specs.Content.{Moment, Content}
 use Rattle.qls_filehdr.specs.declared.FileHeader.{FileHeader}
 use Rattle.qls_filehdr.specs.Limits.{is_legal_header}
-use Rattle.qls_filehdr.specs.Header.{header_spelling}
 use Rattle.qls_meaning.specs.Journals.{Headed}
 use Rattle.qls_meaning.specs.History.{last_of, AllUnmarked, IsUnmarked}
 use Rattle.qls_laws.proofs.HistoryLaws.{AllUnmarked-within}
@@ -22,7 +21,7 @@ use Rattle.qls_log.specs.Logs.{capacity_in, header_for, AreHeaded, NumberedFrom,
 use Rattle.qls_log.specs.Taking.{TakesFile, TakesFiles}
 use Rattle.qls_log.specs.Standing.{files_on, HasFiles, AreThoseFiles, IsThatFile, AreApart}
 use Rattle.qls_log.proofs.Splits.{Below}
-use Rattle.qls_log.proofs.Takes.{IsAnother, pool_after, ids_after, rests_after, others_after, journal_after, JournalGains, moments_after, Moments, answered_after}
+use Rattle.qls_log.proofs.Takes.{pool_after, ids_after, rests_after, others_after, journal_after, moments_after, answered_after}
 use Rattle.qls_log.proofs.Flushes.{all_linked, all_show}
 use Rattle.qls_log.proofs.Chains.{all_push}
 

@@ -1,18 +1,17 @@
 -- A batch's bytes, laid over the files of the journal.
-use Rattle.std.proofs.Common.{◌≡◌, ◌⊎◌, inl, inr, ℕ, zero, suc, ◌+◌, ◌-◌, ◌*◌, ◌%◌, ◌<◌, ◌≤◌, Bool, true, false, cond, ◌==◌, ◌||◌, min, List, [], ◌∷◌, ◌++◌, map, length, take, drop, Option, Some, None, IfSome, IsTrue, refl, sym, ap, ap₂, ◌∙◌, subst, arith, option_map, length-append, length-take, length-drop, append_assoc, append-nil, take-append-drop, take-take}
+use Rattle.std.proofs.Common.{◌≡◌, ◌⊎◌, inl, inr, ℕ, suc, ◌+◌, ◌-◌, ◌*◌, ◌<◌, ◌≤◌, Bool, true, false, cond, ◌==◌, ◌||◌, min, List, [], ◌∷◌, ◌++◌, map, length, take, drop, Option, Some, None, refl, sym, ap, ap₂, ◌∙◌, subst, arith, option_map, length-append, length-take, length-drop, append_assoc, append-nil, take-append-drop}
 use Rattle.std.proofs.lemmas.Bool.Decides.{nat_tests}
-use Rattle.std.proofs.Math.Seq.{drop-append_seam, take-append_seam, drop-drop}
+use Rattle.std.proofs.Math.Seq.{drop-drop}
 use Rattle.std.proofs.lemmas.List.{drop-take, drop-append-le, take-append-le, map-append}
 use Rattle.std.specs.List.{AllByRecursion}
-use Rattle.qls_site.specs.declared.site.Place.TheVariants.{InUse}
-use Rattle.qls_site.specs.Disk.{Disk, FileState, Write, written, file_of, full, full_file, changed, change_file, all_written, write_at, size_of, bytes_at, seen_bytes}
-use Rattle.qls_site.specs.Content.{Moment, Content, on_disk}
+use Rattle.qls_site.specs.Disk.{Disk, FileState, Write, written, file_of, full, full_file, changed, all_written, write_at, size_of, bytes_at, seen_bytes}
+use Rattle.qls_site.specs.Content.{Content}
 use Rattle.qls_site.proofs.Told.{file_of-change_file}
 use Rattle.qls_site.proofs.DiskLaws.{length-written, front-all_written}
 use Rattle.qls_filehdr.specs.Header.{header_spelling, header_fields}
 use Rattle.qls_meaning.specs.Journals.{Headed, headed, is_in_use}
 use Rattle.qls_meaning.specs.Reading.{stream}
-use Rattle.qls_pool.specs.Files.{HeadedFile, HasHeader, IsLinked, IsAtRest, LinkedThere, RestsThere, IdsDiffer, is_among}
+use Rattle.qls_pool.specs.Files.{HeadedFile, IsLinked, LinkedThere, is_among}
 use Rattle.qls_pool.proofs.Disks.{eqb_own, eqb_is}
 use Rattle.qls_pool.proofs.Steps.{differ_change}
 use Rattle.qls_log.specs.declared.opening.Opening.{Opening}
@@ -21,7 +20,7 @@ use Rattle.qls_log.specs.Writing.{with_write, with_parts}
 use Rattle.qls_log.specs.Standing.{files_on, HasFiles, AreThoseFiles, IsThatFile, AreApart}
 use Rattle.qls_log.proofs.Splits.{Split, split, change_split, Lacks, heads, heads-append, heads-in, files-changed}
 use Rattle.qls_log.proofs.Takes.{IsAnother, other_changed}
-use Rattle.qls_log.proofs.Streams.{splice, HaveSameHeads}
+use Rattle.qls_log.proofs.Streams.{splice}
 
 abbrev writing : ℕ → List ℕ → FileState → FileState
 writing at bytes f = record f { pending = f.pending ++ (record { at = at; bytes = bytes }) ∷ [] }

@@ -1,29 +1,28 @@
 -- A new log.
-use Rattle.std.proofs.Common.{◌≡◌, inl, inr, ℕ, ◌+◌, ◌-◌, ◌*◌, ◌^◌, ◌<◌, ◌≤◌, Bool, true, false, cond, eqb, ltb, List, [], ◌∷◌, ◌++◌, map, length, drop, append-nil, Option, Some, None, IfSome, IsTrue, refl, sym, ap, ◌∙◌, subst, arith, ⊎_elim}
+use Rattle.std.proofs.Common.{◌≡◌, ℕ, ◌+◌, ◌-◌, ◌*◌, ◌^◌, ◌<◌, ◌≤◌, true, cond, eqb, ltb, List, [], ◌∷◌, ◌++◌, map, length, drop, append-nil, Option, Some, None, IfSome, IsTrue, refl, sym, ap, ◌∙◌, subst, arith, ⊎_elim}
 use Rattle.std.proofs.lemmas.Bool.{cases_lt}
 use Rattle.std.proofs.Math.Seq.{drop-append_seam}
 use Rattle.std.specs.List.{AllByRecursion}
-use Rattle.qls_site.specs.Disk.{Disk}
-use Rattle.qls_site.specs.Content.{Moment, Content, Tells, moments_since}
+use Rattle.qls_site.specs.Content.{Content, Tells, moments_since}
 use Rattle.qls_filehdr.specs.declared.FileHeader.{FileHeader}
 use Rattle.qls_filehdr.specs.Limits.{is_legal_header}
 use Rattle.qls_filehdr.proofs.HeaderTrip.{legal_parts}
-use Rattle.qls_meaning.specs.Journals.{Headed, epochs}
-use Rattle.qls_meaning.specs.Reading.{Holder, Placed, holder, stream, begin_place, first_place, end_from, epoch_reading, located, journal_reading, reads_of}
+use Rattle.qls_meaning.specs.Journals.{Headed}
+use Rattle.qls_meaning.specs.Reading.{Placed, stream, begin_place, first_place, end_from, epoch_reading, located, journal_reading}
 use Rattle.qls_meaning.specs.History.{AllUnmarked, IsUnmarked}
 use Rattle.qls_meaning.specs.Orderly.{journal_on}
-use Rattle.qls_laws.specs.Areas.{IsUnmarkedAt, IsUnmarkedFrom}
+use Rattle.qls_laws.specs.Areas.{IsUnmarkedAt}
 use Rattle.qls_laws.proofs.Unmarked.{held_unmarked, reading_ends}
 use Rattle.qls_pool.specs.Pools.{PoolState, IsSpent}
-use Rattle.qls_pool.specs.Files.{HeadedFile, IsWholePool, OnDisk, is_among}
+use Rattle.qls_pool.specs.Files.{HeadedFile, IsWholePool, OnDisk}
 use Rattle.qls_log.specs.declared.opening.Opening.{Opening}
-use Rattle.qls_log.specs.Logs.{LogState, capacity_in, AreHeaded, ids}
+use Rattle.qls_log.specs.Logs.{capacity_in, AreHeaded}
 use Rattle.qls_log.specs.Taking.{TakesFiles, MeetsEnd}
-use Rattle.qls_log.specs.Standing.{files_on, AreThoseFiles, IsThatFile, LogThere, StandsWith, IsUnmarkedBehind, LastIsUnmarked}
-use Rattle.qls_log.specs.Appending.{IsNew, new_log, ReadsNone, ReadsNothing, LeavesOthers}
+use Rattle.qls_log.specs.Standing.{files_on, AreThoseFiles, IsThatFile, LogThere, StandsWith, LastIsUnmarked}
+use Rattle.qls_log.specs.Appending.{new_log, ReadsNone, ReadsNothing, LeavesOthers}
 use Rattle.qls_log.specs.Reads.{BeginsReading}
 use Rattle.qls_log.proofs.Flushes.{all_but}
-use Rattle.qls_log.proofs.Gains.{Resting, has_files, GainedAll, gained_all, LastUnmarked, others_all, answered_all}
+use Rattle.qls_log.proofs.Gains.{has_files, GainedAll, gained_all, LastUnmarked, others_all, answered_all}
 
 pub spent_at_once : (o : Opening) (pool : PoolState) → MeetsEnd o 0 1 pool → IsSpent o.home pool
 spent_at_once o pool m = ⊎_elim (λ e. absurd (none m.taken m.fewer e)) (λ s. s) m.last

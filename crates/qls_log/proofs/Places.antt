@@ -1,5 +1,5 @@
 -- Where records lie in the files of one epoch, and where their reading ends.
-use Rattle.std.proofs.Common.{◌≡◌, ◌⊎◌, inl, inr, ℕ, zero, suc, ◌+◌, ◌-◌, ◌*◌, ◌/◌, ◌%◌, ◌^◌, ◌<◌, ◌≤◌, Bool, true, false, cond, ◌==◌, eqb, ltb, List, [], ◌∷◌, ◌++◌, map, length, take, drop, Option, Some, None, refl, sym, ap, ap₂, ◌∙◌, subst, arith, length-append, length-drop, append-nil, T, ltb→lt}
+use Rattle.std.proofs.Common.{◌≡◌, ◌⊎◌, inl, inr, ℕ, suc, ◌+◌, ◌-◌, ◌*◌, ◌/◌, ◌%◌, ◌^◌, ◌<◌, ◌≤◌, Bool, true, false, cond, ◌==◌, eqb, ltb, List, [], ◌∷◌, ◌++◌, map, length, drop, Option, Some, None, refl, sym, ap, ap₂, ◌∙◌, subst, arith, length-append, append-nil, T, ltb→lt}
 use Rattle.std.proofs.Math.Nat.{div-eq_of_lt, mod-eq_of_lt, mod-eq-sub-mod}
 use Rattle.std.proofs.Math.Seq.{drop-drop, drop-append_seam}
 use Rattle.std.specs.List.{AllByRecursion}
@@ -10,7 +10,7 @@ use Rattle.qls_record.specs.Record.{Record, record_length}
 use Rattle.qls_record.proofs.RecordLength.{record_length_least}
 use Rattle.qls_filehdr.specs.declared.JournalKind.{JournalKind}
 use Rattle.qls_filehdr.specs.declared.FileHeader.{FileHeader}
-use Rattle.qls_meaning.specs.Journals.{Headed, Journal, epochs, onto_epoch}
+use Rattle.qls_meaning.specs.Journals.{Headed, epochs, onto_epoch}
 use Rattle.qls_meaning.specs.Reading.{Holder, Placed, Read, holder, stream, record_in, end_from, first_place, epoch_reading, number_of, place_of, located, reads_of, journal_reading}
 use Rattle.qls_laws.specs.Readings.{Stand}
 use Rattle.qls_laws.specs.Areas.{IsUnmarkedFrom, IsUnmarkedAt, UnmarkedFor}

@@ -1,17 +1,15 @@
 -- One file of a disk among the others, and the files of a journal.
-use Rattle.std.proofs.Common.{◌≡◌, ℕ, ◌+◌, ◌*◌, ◌<◌, ◌≤◌, Bool, true, false, cond, not, ◌&&◌, ◌||◌, ◌==◌, ltb, eqb, nat_eq, List, [], ◌∷◌, ◌++◌, map, length, take, drop, replicate, Option, Some, None, Result, Ok, Err, IsTrue, refl, sym, ap, ap₂, ◌∙◌, subst, arith}
+use Rattle.std.proofs.Common.{◌≡◌, ℕ, ◌<◌, Bool, true, false, cond, ◌&&◌, ◌||◌, ◌==◌, ltb, eqb, List, [], ◌∷◌, ◌++◌, map, Some, refl, sym, ap, ap₂, ◌∙◌, subst, arith}
 use Rattle.std.proofs.lemmas.Bool.Decides.{nat_tests}
 use Rattle.std.proofs.lemmas.List.{map-append}
 use Rattle.std.proofs.lemmas.List.Elements.{filter-append}
 use Rattle.std.specs.List.{AllByRecursion, filter}
 use Rattle.qls_model.specs.Bytes.{same}
 use Rattle.qls_model.proofs.XidKeys.{same_self}
-use Rattle.qls_site.specs.declared.site.Place.TheVariants.{InUse, Empty}
 use Rattle.qls_site.specs.Disk.{Disk, Image, FileState, full, full_file, file_of, changed, change_file, with_file, all_written, sync_at}
 use Rattle.qls_filehdr.specs.declared.JournalKind.{JournalKind}
 use Rattle.qls_filehdr.specs.declared.JournalKind.TheVariants.{Queue, List as Listed}
 use Rattle.qls_meaning.specs.Journals.{Headed, is_in_use, in_use, headed, is_of, same_kind, with_numbered, by_number}
-use Rattle.qls_meaning.specs.Kept.{Differ, ids_of}
 use Rattle.qls_pool.specs.Files.{IdsDiffer}
 use Rattle.qls_pool.proofs.Disks.{eqb_is, eqb_own}
 use Rattle.qls_pool.proofs.Steps.{apart}

@@ -1,12 +1,11 @@
 -- The records of a batch stand behind those of the batches before.
-use Rattle.std.proofs.Common.{◌≡◌, ℕ, zero, suc, ◌+◌, ◌-◌, ◌*◌, ◌/◌, ◌<◌, ◌≤◌, Bool, true, false, cond, ◌==◌, eqb, List, [], ◌∷◌, ◌++◌, map, length, take, drop, Option, Some, None, IfSome, IsTrue, refl, sym, ap, ap₂, ◌∙◌, subst, arith, length-append, length-take, length-drop, append_assoc, append-nil, take-append-drop}
+use Rattle.std.proofs.Common.{◌≡◌, ℕ, ◌+◌, ◌-◌, ◌*◌, ◌/◌, ◌<◌, ◌≤◌, Bool, true, false, cond, ◌==◌, eqb, List, [], ◌∷◌, ◌++◌, length, take, drop, Option, Some, None, IfSome, IsTrue, refl, sym, ap, ap₂, ◌∙◌, subst, arith, length-append}
 use Rattle.std.proofs.Math.Seq.{drop-drop, drop-append_seam}
 use Rattle.std.proofs.lemmas.Grind.{flat_map-append}
 use Rattle.std.proofs.lemmas.List.{take-append-le}
 use Rattle.std.specs.List.{AllByRecursion}
 use Rattle.qls_shape.specs.declared.Version.TheVariants.{Two}
-use Rattle.qls_record.specs.Record.{Record, is_legal, record_length}
-use Rattle.qls_site.specs.Disk.{Disk}
+use Rattle.qls_record.specs.Record.{Record, is_legal}
 use Rattle.qls_site.specs.Content.{Content, Tells}
 use Rattle.qls_filehdr.specs.Limits.{is_legal_header}
 use Rattle.qls_meaning.specs.Journals.{Headed}
@@ -15,7 +14,6 @@ use Rattle.qls_laws.specs.Readings.{Stand, AgreeUpTo}
 use Rattle.qls_blocks.specs.declared.plan.FreshFile.{FreshFile}
 use Rattle.qls_blocks.specs.Batching.{length_of, laid_from, with_fillers}
 use Rattle.qls_blocks.specs.Spelled.{spelled_over}
-use Rattle.qls_blocks.specs.Laws.{serials_of}
 use Rattle.qls_blocks.proofs.Stream.{spelled_behind, placed-laid}
 use Rattle.qls_blocks.proofs.Spelling.{length-spelled_over}
 use Rattle.qls_pool.specs.Pools.{PoolState}
@@ -25,11 +23,11 @@ use Rattle.qls_log.specs.declared.opening.Opening.{Opening}
 use Rattle.qls_log.specs.Logs.{LogState, IsSound, AreHeaded, capacity_in, ids, serials}
 use Rattle.qls_log.specs.Taking.{TakesFiles}
 use Rattle.qls_log.specs.Writing.{with_parts, WritesAll}
-use Rattle.qls_log.specs.Standing.{files_on, HasFiles, AreThoseFiles, LogThere, StandsWith, end_of}
+use Rattle.qls_log.specs.Standing.{files_on, HasFiles, AreThoseFiles, LogThere, end_of}
 use Rattle.qls_log.specs.Appending.{from_newest, written_files, written_place, batch_bytes, StandsBehind}
 use Rattle.qls_log.proofs.Gains.{GainedAll, has_files}
 use Rattle.qls_log.proofs.Laid.{AllLaid, parts_laid, those_length}
-use Rattle.qls_log.proofs.Streams.{splice, HaveSameHeads, agree, batch_stands, stand_more, end_append}
+use Rattle.qls_log.proofs.Streams.{agree, batch_stands, stand_more, end_append}
 use Rattle.qls_log.proofs.Appends.{gains, sized, those_split, same_heads, same_serials, all_capacity, all_legal, take_splice, drop_splice, end_laid, cut_last, enough_room}
 use Rattle.qls_log.proofs.Appended.{sound_capacity, tail_length, drop_last}
 

@@ -1,22 +1,20 @@
 -- One call after another, in order.
-use Rattle.std.proofs.Common.{◌≡◌, ◌≤◌, ◌+◌, ℕ, Bool, true, false, cond, ◌==◌, List, [], ◌∷◌, ◌++◌, map, length, Option, Some, None, Result, Ok, Err, IfSome, IsErr, refl, sym, ap, ◌∙◌, subst, arith, length-append}
-use Rattle.std.specs.List.{AllByRecursion}
+use Rattle.std.proofs.Common.{◌≡◌, ℕ, Bool, true, false, cond, ◌==◌, List, [], ◌∷◌, ◌++◌, length, Option, Some, None, Result, Ok, Err, IsErr, refl, sym, ap, ◌∙◌, subst, arith, length-append}
 use Rattle.qls_model.specs.declared.machine.PoolId.{PoolId}
 use Rattle.qls_site.specs.declared.site.SiteError.{SiteError}
-use Rattle.qls_site.specs.declared.site.SiteError.TheVariants.{Failed, Memory}
 use Rattle.qls_site.specs.declared.site.Place.{Place}
 use Rattle.qls_site.specs.declared.site.Place.TheVariants.{InUse, Empty}
 use Rattle.qls_site.specs.Disk.{Disk, FileState, Write, file_of, full, changed, change_file, all_written, write_at, sync_at}
-use Rattle.qls_site.specs.Content.{Moment, Content, Tells, Acts, MayAct, Leads, on_disk}
+use Rattle.qls_site.specs.Content.{Moment, Content, Tells, Acts, on_disk}
 use Rattle.qls_site.proofs.Told.{KeepsId}
 use Rattle.qls_filehdr.specs.declared.FileHeader.{FileHeader}
 use Rattle.qls_meaning.specs.Kept.{Differ, ids_of}
 use Rattle.qls_meaning.specs.Journals.{is_in_use}
 use Rattle.qls_pool.specs.declared.fault.TakeFault.{TakeFault}
-use Rattle.qls_pool.specs.Pools.{PoolState, HandsOut, least_id}
-use Rattle.qls_pool.specs.Files.{BlankFile, HeadedFile, BlankThere, IsPoolOf, IsWholePool, IdsDiffer, OnDisk, Carries}
+use Rattle.qls_pool.specs.Pools.{PoolState, HandsOut}
+use Rattle.qls_pool.specs.Files.{BlankFile, HeadedFile, BlankThere, IsPoolOf, IsWholePool, IdsDiffer, Carries}
 use Rattle.qls_pool.specs.Taking.{TakesBlank, Heads, SyncsOnce, put_in_use}
-use Rattle.qls_pool.specs.Discipline.{PoolFileStep, PoolFileSteps, IsPoolStep, MeetsFront, IsLeastOnDisk, AddsPoolSteps, EndsPoolSteps, StepsBy, Orderly}
+use Rattle.qls_pool.specs.Discipline.{PoolFileStep, PoolFileSteps, IsPoolStep, MeetsFront, IsLeastOnDisk, EndsPoolSteps, StepsBy, Orderly}
 use Rattle.qls_pool.proofs.Disks.{eqb_is, same_id}
 use Rattle.qls_pool.proofs.Steps.{all_map, all_weaken, all_found, ends_then, ends_adds}
 use Rattle.qls_pool.proofs.Calls.{by_err}

@@ -1,21 +1,18 @@
 -- Batches in the stream of a log's files.
-use Rattle.std.proofs.Common.{◌≡◌, ℕ, zero, suc, ◌+◌, ◌-◌, ◌*◌, ◌/◌, ◌<◌, ◌≤◌, Bool, true, false, cond, ltb, List, [], ◌∷◌, ◌++◌, map, length, take, drop, Option, Some, None, IsTrue, refl, sym, ap, ap₂, ◌∙◌, subst, arith, length-append, length-take, length-drop, append_assoc, append-nil, take-append-drop}
-use Rattle.std.proofs.Math.Seq.{drop-append_seam, take-append_seam, drop-drop}
-use Rattle.std.proofs.lemmas.List.{drop-take, drop-append-le, take-append-le}
-use Rattle.std.specs.List.{AllByRecursion}
+use Rattle.std.proofs.Common.{◌≡◌, ℕ, ◌+◌, ◌-◌, ◌<◌, ◌≤◌, Bool, true, false, cond, ltb, List, [], ◌∷◌, ◌++◌, length, take, drop, Option, Some, None, IsTrue, refl, sym, ap, ap₂, ◌∙◌, subst, arith, length-append, append_assoc}
+use Rattle.std.proofs.Math.Seq.{drop-append_seam, drop-drop}
 use Rattle.qls_shape.specs.declared.Version.TheVariants.{Two}
-use Rattle.qls_record.specs.Record.{Record, is_legal, record_length}
-use Rattle.qls_record.specs.Spelling.{spelling, record_at}
+use Rattle.qls_record.specs.Record.{Record, is_legal}
+use Rattle.qls_record.specs.Spelling.{record_at}
 use Rattle.qls_record.proofs.RoundTrip.{record_at-spelling}
 use Rattle.qls_record.proofs.RecordLength.{length-spelling}
-use Rattle.qls_site.specs.Disk.{Write, written}
+use Rattle.qls_site.specs.Disk.{written}
 use Rattle.qls_meaning.specs.Journals.{Headed}
-use Rattle.qls_meaning.specs.Reading.{Holder, Placed, holder, stream, record_in, held_record, length_in, held_length, held_spelling, spelled_from, placed_from, end_from, begin_place, epoch_reading}
+use Rattle.qls_meaning.specs.Reading.{Holder, Placed, holder, stream, record_in, held_record, length_in, held_length, held_spelling, spelled_from, placed_from, end_from}
 use Rattle.qls_laws.specs.Readings.{Stand, AgreeUpTo, IsReading, LegalFrom, held_legal}
 use Rattle.qls_laws.proofs.Reaches.{stand_there}
-use Rattle.qls_laws.proofs.Unique.{spelled_where_read, read_where_spelled, epoch_only_reading}
-use Rattle.qls_blocks.specs.Batching.{length_of}
-use Rattle.qls_blocks.proofs.Stream.{is_held, IsHeld}
+use Rattle.qls_laws.proofs.Unique.{spelled_where_read, read_where_spelled}
+use Rattle.qls_blocks.proofs.Stream.{IsHeld}
 
 -- ---- bytes laid over a list from a place on
 

@@ -1,14 +1,12 @@
 -- A file that is taken, and what it is for the journal.
 use Rattle.std.proofs.Common.{◌≡◌, ℕ, ◌+◌, ◌-◌, ◌*◌, ◌<◌, ◌≤◌, Bool, true, false, cond, ◌==◌, List, [], ◌∷◌, ◌++◌, map, length, take, drop, Option, Some, None, Result, Ok, Err, IsTrue, IfSome, refl, sym, ap, ap₂, ◌∙◌, subst, arith, option_map, append_assoc, append-nil, length-drop}
-use Rattle.std.specs.List.{AllByRecursion}
 use Rattle.qls_model.specs.declared.machine.PoolId.{PoolId}
-use Rattle.qls_model.specs.Limits.{file_size}
 use Rattle.qls_shape.specs.Claims.{claim, ◌>>◌}
 use Rattle.qls_shape.specs.Fields.{number_at}
 use Rattle.std.specs.Int.{w16}
 use Rattle.qls_site.specs.declared.site.Place.TheVariants.{InUse, Empty}
 use Rattle.qls_site.specs.Disk.{Disk, FileState, Write, file_of, full, full_file, changed, change_file, all_written, size_of, bytes_at, seen_bytes, write_at, sync_at, relocate_at, create_at}
-use Rattle.qls_site.specs.Content.{Moment, Content, Tells, Acts, on_disk, moments_since}
+use Rattle.qls_site.specs.Content.{Moment, Content, Tells}
 use Rattle.qls_site.proofs.Told.{KeepsId, file_of-change_file}
 use Rattle.qls_filehdr.specs.declared.FileHeader.{FileHeader}
 use Rattle.qls_filehdr.specs.declared.Rule.{Rule}
@@ -20,8 +18,8 @@ use Rattle.qls_meaning.specs.Journals.{Headed, headed, is_in_use}
 use Rattle.qls_meaning.specs.History.{last_of, uses, AllUnmarked, IsUnmarked, newly_used}
 use Rattle.qls_laws.proofs.CleanAreas.{newly_unmarked}
 use Rattle.qls_pool.specs.Pools.{PoolState, HandsOut, least_id}
-use Rattle.qls_pool.specs.Files.{BlankFile, HeadedFile, HeadsBlank, IsBlank, IsHeaded, IsAtRest, HasHeader, BlankThere, HeadedThere, LinkedThere, RestsThere, IsPoolOf, IsWholePool, IdsDiffer, OnDisk, Carries}
-use Rattle.qls_pool.specs.Taking.{Obtains, Heads, put_in_use, created, header_written, header_synced}
+use Rattle.qls_pool.specs.Files.{BlankFile, HeadedFile, HeadsBlank, IsBlank, IsHeaded, IsAtRest, HasHeader, BlankThere, HeadedThere, RestsThere, IsPoolOf, IsWholePool, IdsDiffer, OnDisk, Carries}
+use Rattle.qls_pool.specs.Taking.{Obtains, created, header_written, header_synced}
 use Rattle.qls_pool.proofs.Disks.{at_change, eqb_own, found_id}
 use Rattle.qls_pool.proofs.Steps.{heads_ids, moved_ids}
 use Rattle.qls_pool.proofs.Calls.{headed_there, heads_pool, linked_there, links_pool}

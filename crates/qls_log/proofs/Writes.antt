@@ -1,16 +1,15 @@
 -- One write after another.
-use Rattle.std.proofs.Common.{◌≡◌, ℕ, zero, suc, ◌+◌, ◌-◌, ◌*◌, ◌%◌, ◌<◌, ◌≤◌, Bool, true, false, cond, ◌==◌, min, get_or, List, [], ◌∷◌, ◌++◌, map, length, take, drop, Option, Some, None, Result, Ok, Err, IfSome, IsErr, refl, sym, ap, ap₂, ◌∙◌, subst, arith, option_map, length-take, length-drop, append_assoc}
-use Rattle.std.specs.List.{AllByRecursion}
+use Rattle.std.proofs.Common.{◌≡◌, ℕ, zero, suc, ◌+◌, ◌-◌, ◌*◌, ◌%◌, ◌<◌, ◌≤◌, true, false, cond, ◌==◌, min, get_or, List, [], ◌∷◌, ◌++◌, length, take, drop, Option, Some, None, Result, Ok, Err, IfSome, IsErr, refl, sym, ap, ap₂, ◌∙◌, subst, arith, option_map, length-take, length-drop}
 use Rattle.qls_site.specs.declared.site.SiteError.{SiteError}
 use Rattle.qls_site.specs.declared.site.SiteError.TheVariants.{Failed, Memory}
 use Rattle.qls_site.specs.Disk.{Disk, FileState, file_of, full, changed, change_file, all_written, write_at, size_of}
-use Rattle.qls_site.specs.Content.{Moment, Content, Tells, Acts, Leads, HasRange, InFile, on_disk}
+use Rattle.qls_site.specs.Content.{Content, Tells, Acts, Leads, HasRange, InFile, on_disk}
 use Rattle.qls_site.proofs.Told.{file_of-change_file}
 use Rattle.qls_site.proofs.DiskLaws.{length-written}
 use Rattle.qls_meaning.specs.Journals.{is_in_use}
 use Rattle.qls_meaning.specs.History.{is_file_in_use}
 use Rattle.qls_pool.specs.Files.{IdsDiffer}
-use Rattle.qls_pool.specs.Discipline.{EndsPoolSteps, AddsPoolSteps, StepsBy, Orderly}
+use Rattle.qls_pool.specs.Discipline.{EndsPoolSteps, AddsPoolSteps, Orderly}
 use Rattle.qls_pool.proofs.Steps.{ends_one, ends_none, ends_then, ends_adds, adds_none, differ_change}
 use Rattle.qls_pool.proofs.Calls.{by_err}
 use Rattle.qls_log.specs.Writing.{with_write, with_parts, HaveRoom, AreInUse, WritesParts}

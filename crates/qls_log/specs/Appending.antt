@@ -1,5 +1,5 @@
 -- What the calls on a log do.
-use Rattle.std.specs.Prelude.{◌≡◌, ℕ, ◌+◌, ◌*◌, ◌<◌, ◌^◌, false, List, [], ◌∷◌, ◌++◌, map, length, drop, ◌-◌, Option, Some, None, Result, Ok, Err, if◌then◌else◌, ◌==◌}
+use Rattle.std.specs.Prelude.{◌≡◌, ℕ, ◌+◌, ◌*◌, ◌<◌, ◌^◌, false, List, [], ◌∷◌, ◌++◌, map, length, drop, ◌-◌, Result, Ok, Err, if◌then◌else◌, ◌==◌}
 use Rattle.std.specs.List.{AllByRecursion}
 use Rattle.qls_record.specs.Record.{Record, rid_given}
 use Rattle.qls_site.specs.declared.site.SiteError.{SiteError}
@@ -9,8 +9,6 @@ use Rattle.qls_blocks.specs.Parts.{Syncs}
 use Rattle.qls_log.specs.declared.fault.LogError.{LogError}
 use Rattle.qls_log.specs.Faults.{fault_of_site}
 use Rattle.qls_site.specs.Content.{Content, moments_since}
-use Rattle.qls_filehdr.specs.declared.JournalKind.{JournalKind}
-use Rattle.qls_filehdr.specs.declared.FileHeader.{FileHeader}
 use Rattle.qls_meaning.specs.Reading.{Placed, journal_reading}
 use Rattle.qls_meaning.specs.History.{AllUnmarked}
 use Rattle.qls_meaning.specs.Orderly.{journal_on}

@@ -1,5 +1,5 @@
 -- What a log knows: its files of this opening, and where its next batch goes.
-use Rattle.std.specs.Prelude.{◌≡◌, ℕ, ◌+◌, ◌-◌, ◌*◌, ◌%◌, ◌^◌, ◌<◌, ◌≤◌, Bool, true, false, List, [], ◌∷◌, map, length, IsTrue}
+use Rattle.std.specs.Prelude.{◌≡◌, ℕ, ◌+◌, ◌-◌, ◌*◌, ◌%◌, ◌^◌, ◌<◌, ◌≤◌, Bool, true, List, [], ◌∷◌, map, length, IsTrue}
 use Rattle.std.specs.List.{AllByRecursion}
 use Rattle.qls_model.specs.Limits.{is_partition, is_kib}
 use Rattle.qls_filehdr.specs.declared.FileHeader.{FileHeader}

@@ -11,7 +11,8 @@ use Rattle.qls_log.specs.Logs.{LogState, capacity_in}
 use Rattle.qls_log.specs.Spots.{spot_of}
 use Rattle.qls_log.specs.Standing.{IsUnmarkedBehind, files_on, end_of}
 
--- This is what is read of the journal on the disk, the reading ends where the next batch goes, and what lies behind that is unmarked
+-- This is what is read of the journal on the disk, whose files are all of one epoch; the reading ends where the next batch goes, and what
+-- lies behind that is unmarked
 pub record IsRead (l : LogState) (reads : List Read) (d : Disk) : Type 0 where
   pub reading : journal_reading (journal_on d l.opening.kind l.opening.name) ≡ reads
   pub ends : epoch_end true (files_on l.opening d) ≡ end_of l

@@ -1,7 +1,6 @@
 -- What taking files does to the site, to the pool and to the serials.
-use Rattle.std.specs.Prelude.{◌≡◌, ◌⊎◌, ℕ, ◌+◌, ◌-◌, ◌^◌, ◌<◌, List, [], ◌∷◌, length, Option, Some, None, Result, Ok}
+use Rattle.std.specs.Prelude.{◌≡◌, ◌⊎◌, ℕ, ◌+◌, ◌-◌, ◌^◌, ◌<◌, List, [], ◌∷◌, Option, Ok}
 use Rattle.qls_model.specs.declared.machine.PoolId.{PoolId}
-use Rattle.qls_site.specs.declared.site.SiteError.{SiteError}
 use Rattle.qls_site.specs.declared.serials.DrawError.{DrawError}
 use Rattle.qls_site.specs.Content.{Content, Acts, Draws}
 use Rattle.qls_pool.specs.Pools.{PoolState, HandsOut, IsSpent, least_id}

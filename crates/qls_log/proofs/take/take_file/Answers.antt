@@ -1,4 +1,4 @@
-use Rattle.std.proofs.Common.{◌≡◌, [], Ok, ap, ◌∙◌, sym, rules}
+use Rattle.std.proofs.Common.{[], Ok, ap, ◌∙◌, rules}
 use Rattle.qls_filehdr.specs.declared.FileHeader.{FileHeader}
 use Rattle.qls_pool.specs.Files.{HeadedFile, BlankThere, IsPoolOf}
 use Rattle.qls_pool.specs.Taking.{TakesBlank}

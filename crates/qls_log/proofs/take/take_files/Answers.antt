@@ -7,7 +7,7 @@ use Rattle.qls_pool.specs.Files.{HeadedFile, IsPoolOf, IsWholePool}
 use Rattle.qls_log.specs.declared.fault.LogError.{LogError}
 use Rattle.qls_log.specs.declared.fault.LogError.TheVariants.{Memory}
 use Rattle.qls_log.specs.Logs.{AreHeaded, FitsFile}
-use Rattle.qls_log.specs.Taking.{TakesFile, TakesFiles, DrawsEach}
+use Rattle.qls_log.specs.Taking.{TakesFiles, DrawsEach}
 use Rattle.qls_log.proofs.Steps.{failed, ok_again}
 use Rattle.qls_log.proofs.Chains.{take_next, all_get, told_push, draws_push, headed_push, all_push, counts_push, orderly_chain, orderly_stays, whole_then}
 use Rattle.qls_log.proofs.take.take_files.Goals as goal

@@ -1,4 +1,4 @@
-use Rattle.std.proofs.Common.{◌≡◌, ℕ, ◌+◌, ◌-◌, ◌^◌, ◌<◌, ◌≤◌, [], take, length, Ok, IfSome, IsTrue}
+use Rattle.std.proofs.Common.{◌≡◌, ◌+◌, ◌-◌, ◌^◌, ◌<◌, ◌≤◌, [], take, length, Ok, IfSome, IsTrue}
 use Rattle.std.specs.List.{AllByRecursion}
 use Rattle.qls_site.specs.Content.{Tells}
 use Rattle.qls_filehdr.specs.Limits.{is_legal_header}

@@ -1,4 +1,4 @@
-use Rattle.std.proofs.Common.{◌≡◌, ℕ, ◌+◌, ◌-◌, ◌/◌, ◌<◌, List, length, sym, ap, ◌∙◌, subst}
+use Rattle.std.proofs.Common.{◌≡◌, ◌+◌, ◌-◌, ◌/◌, length, sym, ap, ◌∙◌}
 use Rattle.qls_log.specs.Logs.{ids}
 use Rattle.qls_log.proofs.Sizes.{block_facts, each_part}
 use Rattle.qls_log.proofs.write.write_batch.Goals as goal

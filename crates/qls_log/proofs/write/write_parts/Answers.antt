@@ -1,4 +1,4 @@
-use Rattle.std.proofs.Common.{◌≡◌, ℕ, ◌+◌, ◌-◌, ◌*◌, ◌<◌, ◌≤◌, length, drop, take, get_or, rules, arith}
+use Rattle.std.proofs.Common.{◌≡◌, ◌+◌, ◌-◌, length, drop, take, get_or, rules}
 use Rattle.qls_log.proofs.Writes.{told_next, part_sectors, part_size, part_is, room_next, failed_in_order, in_order_next, some_left, each_next, each_next_done}
 use Rattle.qls_log.proofs.write.write_parts.Goals as goal
 

@@ -1,7 +1,7 @@
 use Rattle.std.proofs.Common.{◌≡◌, ℕ, ◌+◌, ◌-◌, ◌*◌, ◌%◌, ◌<◌, ◌≤◌, drop, length, IfSome}
 use Rattle.qls_site.specs.Content.{Tells}
 use Rattle.qls_log.proofs.Writes.{WritesOn, InOrder}
-use Rattle.qls_log.specs.Writing.{HaveRoom, AreInUse}
+use Rattle.qls_log.specs.Writing.{HaveRoom}
 use Rattle.qls_log.proofs.write.write_parts.Given as goal
 
 abbrev pub invariant-loop-id : goal.invariant-loop-id

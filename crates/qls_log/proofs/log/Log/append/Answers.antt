@@ -1,13 +1,12 @@
-use Rattle.std.proofs.Common.{◌≡◌, ℕ, ◌+◌, ◌-◌, ◌*◌, ◌/◌, ◌%◌, ◌<◌, ◌≤◌, [], ◌∷◌, ◌++◌, List, length, drop, false, ◌^◌, Ok, IfSome, IsTrue, refl, sym, ap, ap₂, ◌∙◌, subst, rules, arith, length-append}
+use Rattle.std.proofs.Common.{◌≡◌, ◌+◌, ◌-◌, ◌*◌, ◌/◌, ◌%◌, ◌<◌, ◌≤◌, [], ◌++◌, List, length, drop, false, ◌^◌, IfSome, refl, sym, ap, ◌∙◌, subst, rules}
 use Rattle.std.specs.List.{AllByRecursion}
-use Rattle.qls_site.specs.Content.{Content, Tells}
-use Rattle.qls_filehdr.specs.Limits.{is_legal_header}
+use Rattle.qls_site.specs.Content.{Tells}
 use Rattle.qls_blocks.specs.declared.plan.FreshFile.{FreshFile}
 use Rattle.qls_blocks.specs.declared.plan.Plan.{Plan}
 use Rattle.qls_blocks.specs.Plans.{plan_of}
-use Rattle.qls_pool.specs.Files.{HeadedFile, IsPoolOf, OnDisk}
+use Rattle.qls_pool.specs.Files.{HeadedFile, OnDisk}
 use Rattle.qls_log.specs.Logs.{LogState, FitsFile, IsSound, AreHeaded, capacity_in, ids}
-use Rattle.qls_log.specs.Taking.{TakesFiles, DrawsEach}
+use Rattle.qls_log.specs.Taking.{DrawsEach}
 use Rattle.qls_log.specs.Writing.{HaveRoom, from_written}
 use Rattle.qls_log.specs.Standing.{LogThere}
 use Rattle.qls_log.specs.Appending.{FollowRids, HasAppended, TakesAndWrites, StandsBehind, from_newest, written_files, batch_bytes}

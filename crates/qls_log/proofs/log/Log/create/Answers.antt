@@ -1,14 +1,13 @@
-use Rattle.std.proofs.Common.{◌≡◌, ℕ, ◌*◌, ◌≤◌, true, [], ◌∷◌, List, Err, IfSome, IsTrue, sym, ap, ◌∙◌, subst, rules, arith}
+use Rattle.std.proofs.Common.{◌≡◌, [], ◌∷◌, List, IfSome, IsTrue, sym, ap, subst, rules}
 use Rattle.std.specs.List.{AllByRecursion}
 use Rattle.qls_site.specs.Content.{Tells}
-use Rattle.qls_model.specs.Limits.{is_kib}
 use Rattle.qls_filehdr.specs.Limits.{is_legal_header}
 use Rattle.qls_pool.specs.Files.{HeadedFile, OnDisk}
 use Rattle.qls_log.specs.declared.opening.Opening.{Opening}
 use Rattle.qls_log.specs.Logs.{LogState}
 use Rattle.qls_log.specs.Taking.{TakesFiles}
 use Rattle.qls_log.specs.Standing.{LogThere, StandsWith}
-use Rattle.qls_log.specs.Appending.{IsNew, new_log, ReadsNone}
+use Rattle.qls_log.specs.Appending.{ReadsNone}
 use Rattle.qls_log.specs.Reads.{BeginsReading}
 use Rattle.qls_log.proofs.News.{spent_at_once, told_new, told_start, told_reads, told_begins, told_others, room_of}
 use Rattle.qls_log.proofs.log.Log.create.Goals as goal

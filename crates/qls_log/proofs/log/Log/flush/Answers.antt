@@ -1,4 +1,4 @@
-use Rattle.std.proofs.Common.{◌≡◌, [], Ok, Err, IfSome, sym, ap, subst, List, ℕ, rules}
+use Rattle.std.proofs.Common.{[], Ok, Err, IfSome, sym, subst, rules}
 use Rattle.qls_site.specs.Content.{Tells}
 use Rattle.qls_blocks.specs.Parts.{Syncs, HasFiles}
 use Rattle.qls_pool.specs.Files.{OnDisk, Carries}
