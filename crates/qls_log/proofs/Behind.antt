@@ -107,14 +107,24 @@ parts_moments cap (id ∷ own) at bytes c =
     let rest = parts_moments cap own 0 (drop (cap - at) bytes) one in
     (one.now ∷ rest.0, rest.1 ∙ append_assoc c.moments (one.now ∷ []) rest.0)
 
-pub unmarked_taken : (cap : ℕ) (own : List ℕ) (at : ℕ) (bytes : List ℕ) (a mid b : Content) (since : List Moment) → mid.moments ≡ a.moments ++ since → b ≡ with_parts cap own at bytes mid
-    → AllUnmarked a.now (moments_since a b) → AllUnmarked a.now since
-unmarked_taken cap own at bytes a mid b since e w u =
+-- the moments of the call: those of the files that were taken, and those of the writes
+record Added (a b : Content) (since : List Moment) : Type 0 where
+  writes : List Moment
+  all : b.moments ≡ a.moments ++ (since ++ writes)
+  added : moments_since a b ≡ since ++ writes
+
+added_by : (cap : ℕ) (own : List ℕ) (at : ℕ) (bytes : List ℕ) (a mid b : Content) (since : List Moment) → mid.moments ≡ a.moments ++ since → b ≡ with_parts cap own at bytes mid → Added a b since
+added_by cap own at bytes a mid b since e w =
     let more = parts_moments cap own at bytes mid in
     let all : b.moments ≡ a.moments ++ (since ++ more.0) =
     ap (λ (c : Content). c.moments) w ∙ more.1 ∙ ap (λ (ms : List Moment). ms ++ more.0) e ∙ append_assoc a.moments since more.0 in
-    let added : moments_since a b ≡ since ++ more.0 = ap (drop (length a.moments)) all ∙ drop-append_seam a.moments (since ++ more.0) in
-    unmarked_front a.now since more.0 (subst (AllUnmarked a.now) added u)
+    record { writes = more.0; all = all; added = ap (drop (length a.moments)) all ∙ drop-append_seam a.moments (since ++ more.0) }
+
+-- a call within a call: what was unmarked in all is in the first
+pub unmarked_first : (a mid b : Content) (more : List Moment) → mid.moments ≡ a.moments ++ moments_since a mid → b.moments ≡ mid.moments ++ more → AllUnmarked a.now (moments_since a b) → AllUnmarked a.now (moments_since a mid)
+unmarked_first a mid b more e w u =
+    let all : b.moments ≡ a.moments ++ (moments_since a mid ++ more) = w ∙ ap (λ (ms : List Moment). ms ++ more) e ∙ append_assoc a.moments (moments_since a mid) more in
+    unmarked_front a.now (moments_since a mid) more (subst (AllUnmarked a.now) (ap (drop (length a.moments)) all ∙ drop-append_seam a.moments (moments_since a mid ++ more)) u)
 
 -- ---- the files
 
@@ -390,13 +400,16 @@ module _ (l : LogState) (sound : IsSound l) (flushed : l.unsynced ≡ []) (pool 
   reads_on a mid b t w h p =
       let lying : Lies l taken rs left a mid b = lies l sound flushed pool left taken fs headers legal rs records some count new opening files used a mid b t h p w in
       let end_is : end_of l + length_of (with_fillers rs) ≡ end_of new = new_end l sound flushed pool left taken fs headers legal rs records some count new opening files used a mid b t h p w in
+      let added : Added a b lying.got.since =
+      added_by (capacity_in l.opening) (ids (written_files l taken)) (written_place l) (batch_bytes l taken rs) a mid b lying.got.since lying.got.moments w in
       record {
         batch = batch_whats l rs;
+        adds = added.all ∙ ap (λ (ms : List Moment). a.moments ++ ms) (sym added.added);
         read = λ unmarked reads r.
             read_on l new sound again left taken rs a mid b h.there.files lying opening files newest end_is
             (subst (λ n. 0 < n) (length-spelled_over (capacity_in l.opening) (serials (from_newest l taken)) l.used (with_fillers rs)) some)
             (begins_at_front l rs fs taken (sound_capacity l.opening sound.opening).0 headers planned) reads r
-            (lying.got.unmarked (unmarked_taken (capacity_in l.opening) (ids (written_files l taken)) (written_place l) (batch_bytes l taken rs) a mid b lying.got.since lying.got.moments w unmarked));
+            (lying.got.unmarked (unmarked_front a.now lying.got.since added.writes (subst (AllUnmarked a.now) added.added unmarked)));
       }
 
   pub told_reads_on : (a mid b : Option Content) → Tells (TakesFiles l.opening.home pool left taken) a mid

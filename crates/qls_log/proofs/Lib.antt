@@ -15,3 +15,4 @@ pub mod Appended
 pub mod Stands
 pub mod Places
 pub mod Behind
+pub mod Puts

@@ -30,7 +30,9 @@ batch_reads l rs = map (read_in (capacity_in l.opening) l.newest) (laid_from l.u
 abbrev pub BeginsReading : LogState → Content → Content → Type 0
 BeginsReading l a b = AllUnmarked a.now (moments_since a b) → IsRead l [] b.now.disk
 
--- where every file that came into use was unmarked, what was read before is read behind the batch, and then the batch
+-- where every file that came into use was unmarked, what was read before is read behind the batch, and then the batch; moments are only
+-- added
 pub record ReadsOn (rs : List Record) (old new : LogState) (a b : Content) : Type 0 where
   pub batch : map (λ r. r.what) (batch_reads old rs) ≡ with_fillers rs
+  pub adds : b.moments ≡ a.moments ++ moments_since a b
   pub read : AllUnmarked a.now (moments_since a b) → (reads : List Read) → IsRead old reads a.now.disk → IsRead new (reads ++ batch_reads old rs) b.now.disk

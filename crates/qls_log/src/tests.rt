@@ -1,8 +1,13 @@
 // Logs over a site in memory: what files hold after batches, and what a call answers that fails.
-ghost use Rattle.std.specs.Prelude.{◌≡◌, ◌<◌, ◌≤◌, ◌+◌, ◌^◌, false, [], IfOk, IfSome, length};
+ghost use Rattle.std.specs.Prelude.{◌≡◌, ◌<◌, ◌≤◌, ◌+◌, ◌^◌, ◌++◌, false, List, [], IfOk, IfSome, length};
 ghost use Rattle.qls_pool.specs.Files.{IsPoolOf, IsWholePool, OnDisk};
 ghost use Rattle.qls_log.specs.Standing.{LogThere};
+ghost use Rattle.qls_record.specs.Record.{Record};
+ghost use Rattle.qls_site.specs.Content.{Tells, moments_since};
+ghost use Rattle.qls_meaning.specs.Reading.{Read};
+ghost use Rattle.qls_meaning.specs.History.{AllUnmarked};
 ghost use Rattle.qls_log.specs.Appending.{FollowRids};
+ghost use Rattle.qls_log.specs.Reads.{IsRead, BeginsReading, batch_reads};
 
 use crate::{Log, LogError, Spot};
 use qls_blocks::Batch;
@@ -41,6 +46,7 @@ fn make<S: Site, N: Serials>(
     ensures pool { IfOk result (λ _. IfSome (S.told site.new) (OnDisk (IsPoolOf pool.new []))) }
     ensures there { IfOk result (λ log. IfSome (S.told site.new) (OnDisk (LogThere log))) }
     ensures log { IfOk result (λ log. (log.ended ≡ false) × (log.unsynced ≡ [])) }
+    ensures begins { IfOk result (λ log. Tells (BeginsReading log) (S.told site.old) (S.told site.new)) }
 {
     let name = Name::new(b"a").ok_or(LogError::Memory)?;
     Log::create(alloc, site, pool, serials, JournalKind::Queue, name, HOME)
@@ -91,7 +97,7 @@ fn magic_at(files: &Seq<ImageFile>, file: usize, at: usize) -> Option<u64> {
     Some(number % (1 << 32))
 }
 
-/// Appends a batch of one enqueue, flushes it, and answers its spot.
+/// Appends a batch of one enqueue, flushes it, and answers its spot. A batch is read then behind what was read before.
 fn put<S: Site, N: Serials>(
     alloc: Global,
     log: &mut Log,
@@ -108,6 +114,7 @@ fn put<S: Site, N: Serials>(
     ensures flushed { IfOk result (λ _. log.new.unsynced ≡ []) }
     ensures there { IfOk result (λ _. IfSome (S.told site.new) (OnDisk (LogThere log.new))) }
     ensures pool { IfOk result (λ _. IfSome (S.told site.new) (OnDisk (IsPoolOf pool.new []))) }
+    ensures read { IfOk result (λ _. (rs : List Record) × (0 < length rs) × Tells (λ a b. AllUnmarked a.now (moments_since a b) → (reads : List Read) → IsRead log.old reads a.now.disk → IsRead log.new (reads ++ batch_reads log.old rs) b.now.disk) (S.told site.old) (S.told site.new)) }
 {
     let rid = log.rid();
     if rid > 1_000_000 {
