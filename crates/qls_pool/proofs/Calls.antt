@@ -135,7 +135,7 @@ write bytes f = record f { pending = f.pending ++ (record { at = 0; bytes = byte
 abbrev sync : FileState → FileState
 sync f = record f { stable = all_written f.pending f.stable; pending = [] }
 
-one_more_write : (ps : List Write) (w : Write) (old : List ℕ) → all_written (ps ++ w ∷ []) old ≡ written w (all_written ps old)
+pub one_more_write : (ps : List Write) (w : Write) (old : List ℕ) → all_written (ps ++ w ∷ []) old ≡ written w (all_written ps old)
 one_more_write [] w old = refl
 one_more_write (p ∷ ps) w old = one_more_write ps w (written p old)
 

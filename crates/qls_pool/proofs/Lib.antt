@@ -4,4 +4,5 @@ pub mod Steps
 pub mod Calls
 pub mod Taken
 pub mod Others
+pub mod FirstTaken
 mod TwoFiles

@@ -38,7 +38,7 @@ pub all_weaken : (P Q : FileState → Type 0) → ((f : FileState) → P f → Q
 all_weaken P Q s [] p = tt
 all_weaken P Q s (f ∷ d) p = (s f p.0, all_weaken P Q s d p.1)
 
-all_both : (P Q R : FileState → Type 0) → ((f : FileState) → P f → Q f → R f) → (d : Disk) → AllByRecursion P d → AllByRecursion Q d → AllByRecursion R d
+pub all_both : (P Q R : FileState → Type 0) → ((f : FileState) → P f → Q f → R f) → (d : Disk) → AllByRecursion P d → AllByRecursion Q d → AllByRecursion R d
 all_both P Q R s [] p q = tt
 all_both P Q R s (f ∷ d) p q = (s f p.0 q.0, all_both P Q R s d p.1 q.1)
 
@@ -70,23 +70,23 @@ own_change own c keeps d f e =
 
 -- ---- steps of one file
 
-not_both : (b : Bool) → b ≡ false → b ≡ true → ⊥
+pub not_both : (b : Bool) → b ≡ false → b ≡ true → ⊥
 not_both b e k = cc
 
 longer : (ps : List Write) (w : Write) → ps ≡ ps ++ w ∷ [] → ⊥
 longer ps w e = omega (arith, ap length e, length-append ps (w ∷ []))
 
-some_more : (ps : List Write) (w : Write) → [] ≡ ps ++ w ∷ [] → ⊥
+pub some_more : (ps : List Write) (w : Write) → [] ≡ ps ++ w ∷ [] → ⊥
 some_more ps w e = omega (arith, ap length e, length-append ps (w ∷ []))
 
-unchanged : (m : Moment) (f : FileState) → PoolFileStep m f f
+pub unchanged : (m : Moment) (f : FileState) → PoolFileStep m f f
 unchanged m f = record {
   taken = λ a b. absurd (not_both (is_in_use f.place) a b);
   returned = λ a b. absurd (not_both (is_in_use f.place) b a);
   written = λ w e. absurd (longer f.pending w e);
 }
 
-only_one : (v w : Write) → ◌≡◌ {A = List Write} (v ∷ []) (w ∷ []) → v ≡ w
+pub only_one : (v w : Write) → ◌≡◌ {A = List Write} (v ∷ []) (w ∷ []) → v ≡ w
 only_one v w e = cc
 
 wrote : (m : Moment) (f : FileState) (v : Write) (part kib : ℕ) → f.place ≡ Empty part kib → v.at + length v.bytes ≤ 4096 → PoolFileStep m f (record f { pending = f.pending ++ v ∷ [] })
@@ -96,7 +96,7 @@ wrote m f v part kib place fits = record {
   written = λ w e. subst (λ p. MeetsFront p w) (sym place) (subst (λ (x : Write). x.at + length x.bytes ≤ 4096) (only_one v w (append_cancel_left f.pending (v ∷ []) (w ∷ []) e)) fits);
 }
 
-synced : (m : Moment) (f : FileState) → PoolFileStep m f (record f { stable = all_written f.pending f.stable; pending = [] })
+pub synced : (m : Moment) (f : FileState) → PoolFileStep m f (record f { stable = all_written f.pending f.stable; pending = [] })
 synced m f = record {
   taken = λ a b. absurd (not_both (is_in_use f.place) a b);
   returned = λ a b. absurd (not_both (is_in_use f.place) b a);
@@ -105,7 +105,7 @@ synced m f = record {
 
 -- ---- steps of a disk
 
-step_change : (own : ℕ) (c : FileState → FileState) → KeepsId c → (m : Moment) → Differ (ids_of (full m.disk)) → ((f : FileState) → file_of own m.disk ≡ Some f → PoolFileStep m f (c f))
+pub step_change : (own : ℕ) (c : FileState → FileState) → KeepsId c → (m : Moment) → Differ (ids_of (full m.disk)) → ((f : FileState) → file_of own m.disk ≡ Some f → PoolFileStep m f (c f))
     → IsPoolStep m (on_disk (change_file own c) m)
 step_change own c keeps m differ mine =
     all_map (λ f. file_of f.id m.disk ≡ Some f) (λ g. PoolFileSteps m (file_of g.id m.disk) g) (changed own c)
@@ -118,7 +118,7 @@ step_change own c keeps m differ mine =
           | false ↦ λ k. unchanged m f
         ] refl
 
-step_same : (m : Moment) → Differ (ids_of (full m.disk)) → IsPoolStep m m
+pub step_same : (m : Moment) → Differ (ids_of (full m.disk)) → IsPoolStep m m
 step_same m differ =
     all_weaken (λ f. file_of f.id m.disk ≡ Some f) (λ g. PoolFileSteps m (file_of g.id m.disk) g) (λ f e. subst (λ (o : Option FileState). PoolFileSteps m o f) (sym e) (unchanged m f)) m.disk (all_found m.disk differ)
 
@@ -178,7 +178,7 @@ header_step b h m legal differ there =
     step_change b.id (write (header_spelling h)) (λ f. refl) m differ
     (λ f e. wrote m f (record { at = 0; bytes = header_spelling h }) b.home.part b.home.kib (blank_is b (file_of b.id m.disk) f there e).0 (omega (arith, header_length h legal)))
 
-sync_step : (id : ℕ) (m : Moment) → Differ (ids_of (full m.disk)) → IsPoolStep m (on_disk (sync_at id) m)
+pub sync_step : (id : ℕ) (m : Moment) → Differ (ids_of (full m.disk)) → IsPoolStep m (on_disk (sync_at id) m)
 sync_step id m differ = step_change id sync (λ f. refl) m differ (λ f e. synced m f)
 
 pub heads_steps : {X : Type 0} (b : BlankFile) (h : FileHeader) (r : Result X SiteError) (x y : Content) → IsTrue (is_legal_header h) → Heads b.id h r x y → Differ (ids_of (full x.now.disk)) → BlankThere b x.now.disk
@@ -208,7 +208,7 @@ headed_is h o f k e = subst (IsHeaded h) e k
 linked_is : (h : HeadedFile) (o : Option FileState) (f : FileState) → IsLinked h o → o ≡ Some f → IsLinked h (Some f)
 linked_is h o f k e = subst (IsLinked h) e k
 
-reads_header : (h : FileHeader) (f : FileState) → IsTrue (is_legal_header h) → HasHeader h f → header_of (take 4096 f.stable) ≡ Ok h
+pub reads_header : (h : FileHeader) (f : FileState) → IsTrue (is_legal_header h) → HasHeader h f → header_of (take 4096 f.stable) ≡ Ok h
 reads_header h f legal k = ap header_of k.stable ∙ header_of-header_spelling h legal
 
 into_use : (h : HeadedFile) (m : Moment) (f : FileState) → f.id ≡ h.id → IsTrue (is_legal_header h.header) → IsHeaded h (Some f) → IsLeastOnDisk h.header.part h.header.kib h.id m.disk → PoolFileStep m f (record f { place = InUse })

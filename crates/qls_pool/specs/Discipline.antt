@@ -8,12 +8,11 @@ use Rattle.qls_site.specs.Disk.{Disk, FileState, Write, file_of}
 use Rattle.qls_site.specs.Content.{Moment, Content}
 use Rattle.qls_filehdr.specs.declared.FileHeader.{FileHeader}
 use Rattle.qls_filehdr.specs.Header.{header_of}
-use Rattle.qls_meaning.specs.History.{last_of}
+use Rattle.qls_meaning.specs.History.{History, FreeArea, last_of, now, next}
 use Rattle.qls_meaning.specs.Journals.{is_in_use}
 use Rattle.qls_meaning.specs.Spent.{is_pool_place}
 use Rattle.qls_pool.specs.Files.{IdsDiffer}
-use Rattle.qls_meaning.specs.History.{History, FreeArea, next, now}
-use Rattle.qls_meaning.specs.Orderly.{IsNewFile, WasLeast, NamesPool, GoesHome, IsTaken, journal_on}
+use Rattle.qls_meaning.specs.Orderly.{IsNewFile, IsTaken, WasLeast, NamesPool, GoesHome, journal_on}
 
 -- it had the least id of its pool, and has a legal header that is stable and names that pool, with nothing pending
 pub record IsPutInUse (m : Moment) (f g : FileState) (header : FileHeader) : Type 0 where
@@ -80,9 +79,9 @@ Orderly P result (Some old) (Some new) = IdsDiffer old.now.disk → P old.now.di
 Orderly P result (Some old) None = Unit {0}
 Orderly P result None new = Unit {0}
 
--- ---- the order in which files are made and come into use, over whole moments
+-- ---- which files come into use, over the moments of a call
 
--- a new file is next in its pool, and a file that comes into use is the next of its journal
+-- of what is orderly the part on files that are created and come into use
 abbrev pub TakesFile : List FreeArea → History → Option FileState → FileState → Type 0
 TakesFile areas h None g = IsNewFile (now h) g.place g
 TakesFile areas h (Some f) g = is_in_use f.place ≡ false → is_in_use g.place ≡ true → (header : FileHeader) × IsTaken areas h f g header
@@ -95,15 +94,20 @@ TakesInOrder areas h [] = Unit {0}
 TakesInOrder areas h (m ∷ ms) = IsTakingStep areas h m × TakesInOrder areas (next h m) ms
 
 -- the first file of a journal that had none
-pub record IsFirstFile (m : Moment) (header : FileHeader) : Type 0 where
+pub record IsFirstFile (d : Disk) (g : FileState) (header : FileHeader) : Type 0 where
+  pub legal : header_of (take 4096 g.stable) ≡ Ok header
   pub epoch : header.epoch ≡ 1
   pub number : header.number ≡ 1
-  pub none : (journal_on m.disk header.kind header.name).files ≡ []
+  pub new : (journal_on d header.kind header.name).files ≡ []
 
-abbrev pub FirstFile : Moment → Option FileState → FileState → Type 0
-FirstFile m None g = Unit {0}
-FirstFile m (Some f) g = is_in_use f.place ≡ false → is_in_use g.place ≡ true → (header : FileHeader) × (header_of (take 4096 g.stable) ≡ Ok header) × IsFirstFile m header
+abbrev pub TakesFirst : Moment → Option FileState → FileState → Type 0
+TakesFirst m None g = Unit {0}
+TakesFirst m (Some f) g = is_in_use f.place ≡ false → is_in_use g.place ≡ true → (header : FileHeader) × IsFirstFile m.disk g header
 
 -- each file that comes into use is the first of its journal
 abbrev pub IsFirstTaken : Moment → Moment → Type 0
-IsFirstTaken m n = AllByRecursion (λ g. FirstFile m (file_of g.id m.disk) g) n.disk
+IsFirstTaken m n = AllByRecursion (λ g. TakesFirst m (file_of g.id m.disk) g) n.disk
+
+abbrev pub AreFirstTaken : Moment → List Moment → Type 0
+AreFirstTaken m [] = Unit {0}
+AreFirstTaken m (n ∷ ns) = IsFirstTaken m n × AreFirstTaken n ns

@@ -28,7 +28,7 @@ use std::alloc::Global;
 pub fn scan<S: Site>(alloc: Global, site: &mut S) -> Result<Found, ScanFault>
     ensures found { IfSome (S.told site.old) (λ c. IfOk result (IsFound (full c.now.disk))) }
     ensures damage { IfSome (S.told site.old) (λ c. IsFirstDamage (full c.now.disk) result) }
-    ensures rising { IfSome (S.told site.old) (λ c. IfOk result (λ _. IdsRise (full c.now.disk))) }
+    ensures rising { IfSome (S.told site.old) (λ c. IdsRise (full c.now.disk)) }
     ensures sound { IfOk result IsSound }
     ensures told { Tells OnlyLooks (S.told site.old) (S.told site.new) }
     ensures cause { HasCause (S.faults site.old) (S.faults site.new) result }

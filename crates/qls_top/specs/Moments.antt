@@ -38,7 +38,6 @@ Quietly m n = (n.answered ≡ m.answered) ⊎ IsQuiet n.disk
 
 -- from a moment of a run to the next: a file is made, comes into use and is written as the pool has it, and is the first of its journal
 pub record IsRunStep (m n : Moment) : Type 0 where
-  pub quiet : Quietly m n
   pub pool : IsPoolStep m n
   pub first : IsFirstTaken m n
 
@@ -47,6 +46,14 @@ pub record IsSilentStep (m n : Moment) : Type 0 where
   pub answered : n.answered ≡ m.answered
   pub pool : IsPoolStep m n
   pub first : IsFirstTaken m n
+
+-- where nothing was pending at the start, bytes are answered while nothing is
+abbrev pub AnswersQuietly : Content → Content → Type 0
+AnswersQuietly old new = IsQuiet old.now.disk → Passes Quietly old new
+
+-- where nothing was pending, nothing is
+abbrev pub StaysQuiet : Content → Content → Type 0
+StaysQuiet old new = IsQuiet old.now.disk → IsQuiet new.now.disk
 
 -- every file that came into use since was unmarked
 abbrev pub UnmarkedSince : Content → Content → Type 0

@@ -26,12 +26,11 @@ use Rattle.qls_top.specs.Sessions.{IsCleanSession}
 
 -- ---- a script that was run to its end
 
--- From the state S on every line is answered. Where the files that came into use were unmarked, the disk holds the machine's state
--- after all of them
+-- From the state S on every line is answered. Where nothing was pending at the start and the files that came into use were unmarked,
+-- the disk holds the machine's state after all lines
 pub record IsRun (home : PoolId) (S : MachineState) (script : List ℕ) (old new : Content) : Type 0 where
   pub answered : new.now.answered ≡ old.now.answered ++ answers_text home.kib S (commands script)
-  pub quiet : IsQuiet new.now.disk
-  pub stored : UnmarkedSince old new → IsStored home (state_answered home.kib S (commands script)) new.now.disk
+  pub stored : IsQuiet old.now.disk → UnmarkedSince old new → IsStored home (state_answered home.kib S (commands script)) new.now.disk
 
 -- where site and source tell: the source was read to its end, and all of the script was run
 abbrev pub EndsFrom : PoolId → MachineState → Option Content → Option Content → Option (List ℕ) → Option (List ℕ) → Type 0

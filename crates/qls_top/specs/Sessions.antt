@@ -3,25 +3,21 @@ use Rattle.std.specs.Prelude.{◌≡◌, ℕ, List, ◌++◌, Option, Some, None
 use Rattle.qls_model.specs.Machine.{MachineState, queue_named}
 use Rattle.qls_model.specs.declared.machine.Command.{Command}
 use Rattle.qls_model.specs.declared.machine.Command.TheVariants as command
-use Rattle.qls_site.specs.Disk.{IsQuiet}
 use Rattle.qls_site.specs.Content.{Content}
-use Rattle.qls_meaning.specs.History.{AllUnmarked, IsClean}
+use Rattle.qls_meaning.specs.History.{AllUnmarked}
 use Rattle.qls_pool.specs.Pools.{IsSpent}
 use Rattle.qls_top.specs.declared.answer.Answer.{Answer}
 use Rattle.qls_top.specs.declared.session.Session.{Session}
 use Rattle.qls_top.specs.Answers.{answer_text, answer_built, answer_line}
-use Rattle.qls_top.specs.Moments.{Arrives, IsRunStep, IsSilentStep}
-use Rattle.qls_top.specs.Table.{Fits, areas_of}
+use Rattle.qls_top.specs.Moments.{Arrives, IsRunStep, IsSilentStep, StaysQuiet}
+use Rattle.qls_top.specs.Table.{Fits, IsCleanTable}
 
 abbrev pub FitsSession : Session → Content → Type 0
 FitsSession s c = Fits s.home s.state s.pool s.files.items c
 
-abbrev pub HasQuietDisk : Content → Type 0
-HasQuietDisk c = IsQuiet c.now.disk
-
--- the free areas of the session's files are clean
+-- the session's files are clean behind their last blocks
 abbrev pub IsCleanSession : Session → Content → Type 0
-IsCleanSession s c = IsClean (areas_of s.files.items) c.now.disk
+IsCleanSession s c = IsCleanTable s.files.items c.now.disk
 
 -- the command makes a queue that isn't there, and neither a file nor an id is left for it
 pub record NeedsFile (was : Session) (asked : Option Command) : Type 0 where
@@ -35,6 +31,7 @@ pub record NeedsFile (was : Session) (asked : Option Command) : Type 0 where
 pub record RunsCommand (was : Session) (asked : Option Command) (s : Session) (answer : Answer) (old new : Content) : Type 0 where
   pub stepped : (s.state, answer) ≡ answer_built s.home.kib was.state asked
   pub arrives : Arrives IsSilentStep old new
+  pub quiet : StaysQuiet old new
   pub fits : FitsSession s new
   pub clean : AllUnmarked old.now arrives.since → IsCleanSession was old → IsCleanSession s new
 
@@ -42,6 +39,7 @@ pub record RunsCommand (was : Session) (asked : Option Command) (s : Session) (a
 pub record RunsLine (was : Session) (asked : Option Command) (s : Session) (old new : Content) : Type 0 where
   pub state : s.state ≡ (answer_line s.home.kib was.state asked).0
   pub arrives : Arrives IsRunStep old new
+  pub quiet : StaysQuiet old new
   pub answered : new.now.answered ≡ old.now.answered ++ answer_text (answer_line s.home.kib was.state asked).1
   pub fits : FitsSession s new
   pub clean : AllUnmarked old.now arrives.since → IsCleanSession was old → IsCleanSession s new

@@ -1,11 +1,11 @@
 -- What a session's steps do to the told content.
-use Rattle.std.specs.Prelude.{◌≡◌, ℕ, ◌*◌, true, false, List, [], ◌∷◌, ◌++◌, length, Some, ◌==◌}
+use Rattle.std.specs.Prelude.{◌≡◌, ℕ, ◌*◌, ◌^◌, ◌<◌, true, false, List, [], ◌∷◌, ◌++◌, length, Some, ◌==◌}
 use Rattle.std.specs.List.{flat_map}
 use Rattle.qls_model.specs.declared.machine.PoolId.{PoolId}
 use Rattle.qls_model.specs.declared.machine.Status.TheVariants.{Ready}
 use Rattle.qls_shape.specs.declared.Version.TheVariants.{Two}
 use Rattle.qls_site.specs.declared.site.Place.TheVariants.{InUse}
-use Rattle.qls_site.specs.Disk.{Disk, FileState, IsQuiet, file_of, write_at, sync_at}
+use Rattle.qls_site.specs.Disk.{Disk, FileState, file_of, write_at, sync_at}
 use Rattle.qls_site.specs.Content.{Moment, Content, on_disk}
 use Rattle.qls_record.specs.Spelling.{spelling}
 use Rattle.qls_filehdr.specs.declared.JournalKind.TheVariants.{Queue}
@@ -16,17 +16,17 @@ use Rattle.qls_pool.specs.Pools.{PoolState}
 use Rattle.qls_pool.specs.Files.{IdsDiffer, IsWholePool}
 use Rattle.qls_top.specs.declared.files.QueueFile.{QueueFile}
 use Rattle.qls_top.specs.Stored.{only_header, records_of}
-use Rattle.qls_top.specs.Moments.{Arrives, IsSilentStep}
+use Rattle.qls_top.specs.Moments.{Arrives, IsSilentStep, StaysQuiet}
 use Rattle.qls_top.specs.Serials.{serials_taken}
 
 -- the spelling of a message's record and of the fillers behind it
 abbrev pub block_bytes : ℕ → ℕ → List ℕ → List ℕ
 block_bytes serial number body = flat_map (spelling Two serial) (records_of (record { number = number; body = body; status = Ready }))
 
--- nothing is pending, the pool is the site's, and no file of the queue is in use
-pub record MayStart (name : List ℕ) (pool : PoolState) (c : Content) : Type 0 where
-  pub quiet : IsQuiet c.now.disk
-  pub pool : IsWholePool pool c.now.disk
+-- the pool is the site's and within its limit, and no file of the queue is in use
+pub record MayStart (name : List ℕ) (pools : PoolState) (c : Content) : Type 0 where
+  pub pool : IsWholePool pools c.now.disk
+  pub limit : pools.greatest < 2 ^ 62
   pub none : (journal_on c.now.disk Queue name).files ≡ []
 
 -- ids differ, and the file is in use
@@ -42,7 +42,7 @@ pub record IsMade (home : PoolId) (t : QueueFile) (area : List ℕ) (f : FileSta
   pub size : length area ≡ 1024 * home.kib
 
 -- A file that wasn't in use came into use, with the serial drawn for it, and all others are as before. Where it was unmarked it is clean
-pub record TakesFile (home : PoolId) (t : QueueFile) (pool : PoolState) (old new : Content) : Type 0 where
+pub record TakesFile (home : PoolId) (t : QueueFile) (pools : PoolState) (old new : Content) : Type 0 where
   pub arrives : Arrives IsSilentStep old new
   pub unused : is_file_in_use (file_of t.id old.now.disk) ≡ false
   pub others : (id : ℕ) → (id == t.id) ≡ false → file_of id new.now.disk ≡ file_of id old.now.disk
@@ -50,8 +50,9 @@ pub record TakesFile (home : PoolId) (t : QueueFile) (pool : PoolState) (old new
   pub there : file_of t.id new.now.disk ≡ Some file
   pub area : List ℕ
   pub made : IsMade home t area file
-  pub quiet : IsQuiet new.now.disk
-  pub pool : IsWholePool pool new.now.disk
+  pub quiet : StaysQuiet old new
+  pub pool : IsWholePool pools new.now.disk
+  pub limit : pools.greatest < 2 ^ 62
   pub clean : AllUnmarked old.now arrives.since → CleanFile 4096 (Some file)
   pub taken : serials_taken old.now arrives.since ≡ t.serial ∷ []
 

@@ -1,5 +1,5 @@
 -- A session's table of files, and how it fits the machine's state and the disk.
-use Rattle.std.specs.Prelude.{◌≡◌, ℕ, ◌+◌, ◌*◌, ◌^◌, ◌<◌, ◌≤◌, true, List, [], ◌++◌, map, length, Option, Some, None, IsTrue}
+use Rattle.std.specs.Prelude.{◌≡◌, ℕ, ◌+◌, ◌*◌, ◌^◌, ◌<◌, ◌≤◌, true, List, [], ◌++◌, length, Option, Some, None, IsTrue}
 use Rattle.std.specs.List.{flat_map, find, AllByRecursion}
 use Rattle.qls_model.specs.Bytes.{same}
 use Rattle.qls_model.specs.declared.machine.PoolId.{PoolId}
@@ -7,12 +7,12 @@ use Rattle.qls_model.specs.declared.machine.QueueState.{QueueState}
 use Rattle.qls_model.specs.Machine.{MachineState, queue_named}
 use Rattle.qls_shape.specs.declared.Version.TheVariants.{Two}
 use Rattle.qls_site.specs.declared.site.Place.TheVariants.{InUse}
-use Rattle.qls_site.specs.Disk.{Disk, FileState, IsQuiet, file_of}
+use Rattle.qls_site.specs.Disk.{Disk, FileState, file_of}
 use Rattle.qls_site.specs.Content.{Content}
 use Rattle.qls_record.specs.Spelling.{spelling}
 use Rattle.qls_filehdr.specs.Limits.{is_legal_header}
 use Rattle.qls_meaning.specs.Journals.{is_in_use}
-use Rattle.qls_meaning.specs.History.{FreeArea}
+use Rattle.qls_meaning.specs.History.{CleanFile}
 use Rattle.qls_pool.specs.Pools.{PoolState}
 use Rattle.qls_pool.specs.Files.{IsWholePool}
 use Rattle.qls_filehdr.specs.Header.{header_spelling}
@@ -60,18 +60,14 @@ pub record HasEntry (files : List QueueFile) (id : ℕ) : Type 0 where
   pub there : entry_named name files ≡ Some entry
   pub is : entry.id ≡ id
 
--- the free areas of the table's files: what lies behind the last block
-abbrev pub area_of : QueueFile → FreeArea
-area_of t = record { id = t.id; from = 4096 + 4096 * t.used }
+-- each file of the table is clean behind its last block
+abbrev pub IsCleanTable : List QueueFile → Disk → Type 0
+IsCleanTable files d = (name : List ℕ) (t : QueueFile) → entry_named name files ≡ Some t → CleanFile (4096 + 4096 * t.used) (file_of t.id d)
 
-abbrev pub areas_of : List QueueFile → List FreeArea
-areas_of files = map area_of files
-
--- the table names each queue of the state and each file in use, the pool has every empty file, and nothing is pending
-pub record Fits (home : PoolId) (S : MachineState) (pool : PoolState) (files : List QueueFile) (c : Content) : Type 0 where
-  pub quiet : IsQuiet c.now.disk
-  pub pool : IsWholePool pool c.now.disk
-  pub limit : pool.greatest < 2 ^ 62
+-- the table names each queue of the state and each file in use, and the pool has every empty file
+pub record Fits (home : PoolId) (S : MachineState) (pools : PoolState) (files : List QueueFile) (c : Content) : Type 0 where
+  pub pool : IsWholePool pools c.now.disk
+  pub limit : pools.greatest < 2 ^ 62
   pub pairs : (name : List ℕ) → Pairs home c.now.disk (entry_named name files) (queue_named name S.queues)
   pub distinct : (a b : List ℕ) (t u : QueueFile) → entry_named a files ≡ Some t → entry_named b files ≡ Some u → t.id ≡ u.id → same a b ≡ true
   pub own : (id : ℕ) (f : FileState) → file_of id c.now.disk ≡ Some f → is_in_use f.place ≡ true → HasEntry files id

@@ -21,7 +21,7 @@ pub(crate) struct QueueFile {
     pub(crate) used: u64,
 }
 
-ghost use Rattle.std.specs.Prelude.{◌≡◌, ◌≤◌, ◌↔◌, ◌×◌, IfOk, IfErr, IfSome, IsTrue, Err, length, ℕ, List, ◌%◌, ◌<◌, ◌^◌, true};
+ghost use Rattle.std.specs.Prelude.{◌≡◌, ◌≤◌, ◌↔◌, IfOk, IfErr, IfSome, IsTrue, Err, length, ℕ, List, ◌%◌, ◌<◌, ◌^◌, true};
 ghost use Rattle.qls_model.specs.Limits.{is_kib, is_partition, is_queue_name};
 ghost use Rattle.qls_site.specs.Content.{Tells, Rose, HasRange};
 ghost use Rattle.qls_pool.specs.Pools.{IsSpent};
