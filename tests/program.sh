@@ -129,7 +129,8 @@ printf '%08192d' 3 >"pools/empty/1/4/$THIRD"
 printf '%08192d' 5 >"pools/empty/1/4/$FIFTH"
 printf '%08192d' 4 >"pools/empty/2/4/0000000000000000004.qls"
 fifth=$(sha256sum <"pools/empty/1/4/$FIFTH")
-printf 'queue a\n' | run pools run 1 4
+printf 'queue a\n' >one.txt
+run pools run 1 4 <one.txt
 is status "$status" 0
 is replies "$out" 'ok'
 is 'the files' "$(cd pools && find . -type f | sort)" "./empty/1/4/$FIFTH
@@ -144,7 +145,8 @@ scenario='no file and no id'
 mkdir -p last/empty/2/4
 truncate -s 8192 last/empty/2/4/4611686018427387903.qls
 before=$(tree last/empty)
-printf 'put a 01\nqueue a\nqueue b\n' | run last run 1 4
+printf 'put a 01\nqueue a\nqueue b\n' >three.txt
+run last run 1 4 <three.txt
 is status "$status" 9
 is replies "$out" 'refused queue'
 is 'standard error' "$err" 'counter spent'
