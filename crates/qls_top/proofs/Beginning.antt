@@ -59,6 +59,7 @@ pub record Looked (old new : Content) : Type 0 where
   pub quietly : Arrives Quietly old new
   pub none : TakesNone old new
   pub stays : StaysAsItWas old new
+  pub stays_since : (n : ℕ) × (arrives.since ≡ replicate n old.now)
 
 looked_in : (x y : Content) → IdsRise (full x.now.disk) → OnlyLooks x y → Looked x y
 looked_in x y rise looks =
@@ -77,6 +78,7 @@ looked_in x y rise looks =
       quietly = record { since = replicate n m; moments = looks.since.1; chain = chain_again Quietly m (inl refl) n; last = looks.now ∙ sym (last_again m n) };
       none = ap (serials_taken m) (since_of IsRunStep x y arrives) ∙ serials_again m (none_came m m (none_same m m differ refl)) n;
       stays = record { now = looks.now; since = replicate n m; moments = looks.since.1; same = all_again m n };
+      stays_since = (n, refl);
     }
 
 pub looked : (a b : Option Content) → IfSome a (λ c. IdsRise (full c.now.disk)) → Tells OnlyLooks a b → Tells Looked a b
@@ -120,7 +122,7 @@ run_from home S script x y z h k run = record {
       (unmarked_rest x.now h.arrives.since k.since (subst (AllUnmarked x.now) (since_then IsRunStep IsRunStep x y z (Passes-of IsRunStep x y h.arrives) k) unmarked))));
 }
 
-clean_nothing : (s : Session) (c : Content) → s.files.items ≡ [] → IsCleanSession s c
+pub clean_nothing : (s : Session) (c : Content) → s.files.items ≡ [] → IsCleanSession s c
 clean_nothing s c none = λ name t e. absurd (nothing t (ap (entry_named name) (sym none) ∙ e))
   where
     nothing : (t : QueueFile) → None ≡ Some t → ⊥

@@ -41,7 +41,7 @@ module _ (R : Moment → Moment → Type 0) where
   abbrev pub Arrives-acts : (act : Moment → Moment) (a b : Content) → R a.now (act a.now) → Acts act a b → Arrives R a b
   Arrives-acts act a b r h = record { since = act a.now ∷ []; moments = ap (λ c. c.moments) h; chain = (r, tt); last = ap (λ c. c.now) h }
 
-  pub Arrives-none : (a : Content) → Arrives R a a
+  abbrev pub Arrives-none : (a : Content) → Arrives R a a
   Arrives-none a = record { since = []; moments = sym (append-nil a.moments); chain = tt; last = refl }
 
   abbrev pub Passes-same : (a b : Content) → b ≡ a → Passes R a b

@@ -14,3 +14,4 @@ pub mod SessionSteps
 pub mod Starting
 pub mod Lines
 pub mod Beginning
+pub mod Replying

@@ -25,7 +25,7 @@ use Rattle.qls_top.specs.declared.fault.Fault.{Fault}
 use Rattle.qls_top.specs.declared.fault.Fault.TheVariants as fault
 use Rattle.qls_top.specs.Answers.{answer_text, answer_line, built_line, state_answered, answers_text}
 use Rattle.qls_top.specs.Cutting.{Cutter, kept_of_line, CutsTold, Counted, script_limit}
-use Rattle.qls_top.specs.Moments.{last_moment, Arrives, Passes, Quietly, AnswersQuietly, StaysQuiet, EndsIn, IsRunStep, IsSilentStep}
+use Rattle.qls_top.specs.Moments.{last_moment, Arrives, Passes, AddsAnswer, Quietly, AnswersQuietly, StaysQuiet, EndsIn, IsRunStep, IsSilentStep}
 use Rattle.qls_top.specs.Serials.{TakesNone, serials_taken, is_exact}
 use Rattle.qls_top.specs.Table.{Pairs, IsCleanTable, entry_named}
 use Rattle.qls_top.specs.Sessions.{FitsSession, IsCleanSession, RunsCommand, RunsLine, NeedsFile}
@@ -59,6 +59,7 @@ pub record Answers (bytes : List ℕ) (mid new : Content) : Type 0 where
   pub passes : Passes IsRunStep mid new
   pub quietly : AnswersQuietly mid new
   pub none : TakesNone mid new
+  pub adds : AddsAnswer bytes mid new
 
 taken_one : (a b : Content) (n : Moment) → IdsDiffer a.now.disk → n.disk ≡ a.now.disk → (h : Passes IsRunStep a b) → h.since ≡ n ∷ [] → TakesNone a b
 taken_one a b n differ e h is =
@@ -77,6 +78,7 @@ answered_ok bytes mid new differ acts =
       passes = passes;
       quietly = λ q. Passes-of Quietly mid new (Arrives-acts Quietly (on_answered bytes) mid new (inr q) acts);
       none = taken_one mid new (on_answered bytes mid.now) differ refl passes refl;
+      adds = inr (inl (since_is IsRunStep mid new passes));
     }
 
 answered_failed : (bytes : List ℕ) (mid new : Content) → IdsDiffer mid.now.disk → MayAct (on_answered bytes) mid new → Answers bytes mid new
@@ -87,6 +89,7 @@ answered_failed bytes mid new differ may =
       passes = passes;
       quietly = λ q. Passes-may Quietly (on_answered bytes) mid new (inl refl) (inr q) may;
       none = taken_two mid new mid.now (on_answered bytes mid.now) differ refl refl passes refl;
+      adds = inr (inr (since_is IsRunStep mid new passes));
     }
 
 answered_same : (bytes : List ℕ) (mid new : Content) → new ≡ mid → Answers bytes mid new
@@ -94,6 +97,7 @@ answered_same bytes mid new same = let passes : Passes IsRunStep mid new = Passe
   passes = passes;
   quietly = λ q. Passes-same Quietly mid new same;
   none = ap (serials_taken mid.now) (since_is IsRunStep mid new passes);
+  adds = inl (since_is IsRunStep mid new passes);
 }
 
 answered_by : (bytes : List ℕ) (r : Result (Unit {0}) SiteError) (mid new : Content) → IdsDiffer mid.now.disk → Leads (Acts (on_answered bytes)) (MayAct (on_answered bytes)) r mid new → Answers bytes mid new
@@ -198,18 +202,18 @@ kept_command line = short_or_long line (leb (length line) 2100000) refl
 
 -- ---- the script, line by line
 
-answers_append : (kib : ℕ) (S : MachineState) (cs ds : List (Option Command)) → answers_text kib S (cs ++ ds) ≡ answers_text kib S cs ++ answers_text kib (state_answered kib S cs) ds
+pub answers_append : (kib : ℕ) (S : MachineState) (cs ds : List (Option Command)) → answers_text kib S (cs ++ ds) ≡ answers_text kib S cs ++ answers_text kib (state_answered kib S cs) ds
 answers_append kib S [] ds = refl
 answers_append kib S (c ∷ cs) ds =
     let here = answer_line kib S c in
     ap (λ (t : List ℕ). answer_text here.1 ++ t) (answers_append kib here.0 cs ds) ∙ sym (append_assoc (answer_text here.1) (answers_text kib here.0 cs) (answers_text kib (state_answered kib here.0 cs) ds))
 
-state_append : (kib : ℕ) (S : MachineState) (cs ds : List (Option Command)) → state_answered kib S (cs ++ ds) ≡ state_answered kib (state_answered kib S cs) ds
+pub state_append : (kib : ℕ) (S : MachineState) (cs ds : List (Option Command)) → state_answered kib S (cs ++ ds) ≡ state_answered kib (state_answered kib S cs) ds
 state_append kib S [] ds = refl
 state_append kib S (c ∷ cs) ds = state_append kib (answer_line kib S c).0 cs ds
 
 -- what a cut leaves of the commands
-cut_split : (script before rest line kept : List ℕ) (done : List (Option Command)) → commands script ≡ done ++ commands before → lines before ≡ line ∷ lines rest → kept ≡ kept_of_line line
+pub cut_split : (script before rest line kept : List ℕ) (done : List (Option Command)) → commands script ≡ done ++ commands before → lines before ≡ line ∷ lines rest → kept ≡ kept_of_line line
     → commands script ≡ done ++ command_of kept ∷ commands rest
 cut_split script before rest line kept done split cut is =
     split ∙ ap (λ cs. done ++ cs) (ap (map command_of) cut ∙ ap (λ (c : Option Command). c ∷ commands rest) (sym (ap command_of is ∙ kept_command line)))

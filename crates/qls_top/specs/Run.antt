@@ -21,7 +21,7 @@ use Rattle.qls_top.specs.declared.session.Session.{Session}
 use Rattle.qls_top.specs.Answers.{state_answered, answers_text}
 use Rattle.qls_top.specs.Cutting.{script_limit}
 use Rattle.qls_top.specs.Stored.{IsStored}
-use Rattle.qls_top.specs.Moments.{UnmarkedSince}
+use Rattle.qls_top.specs.Moments.{Chain, AtReplies, UnmarkedSince}
 use Rattle.qls_top.specs.Sessions.{IsCleanSession}
 
 -- ---- a script that was run to its end
@@ -100,6 +100,42 @@ EndsSpent home old new script = SpentFrom home empty_state old new script
 
 abbrev pub EndsSpentIn : Session → Option Content → Option Content → Option (List ℕ) → Type 0
 EndsSpentIn s old new script = SpentFrom s.home s.state old new script
+
+-- ---- at each reply
+
+-- these are the answers to the first of the commands, and the disk holds the machine's state after them
+pub record IsReplied (home : PoolId) (S : MachineState) (script before : List ℕ) (n : Moment) : Type 0 where
+  pub done : List (Option Command)
+  pub rest : List (Option Command)
+  pub split : commands script ≡ done ++ rest
+  pub answered : n.answered ≡ before ++ answers_text home.kib S done
+  pub stored : IsStored home (state_answered home.kib S done) n.disk
+
+abbrev pub RepliesIn : PoolId → MachineState → List ℕ → Content → Content → Type 0
+RepliesIn home S script old new = Chain (AtReplies (IsReplied home S script old.now.answered)) old.now (moments_since old new)
+
+-- Where nothing was pending at the start and the files that came into use were unmarked: at each moment at which bytes were answered,
+-- from the state S on
+abbrev pub RepliesFrom : PoolId → MachineState → Option Content → Option Content → Option (List ℕ) → Type 0
+RepliesFrom home S (Some old) (Some new) (Some script) = IsQuiet old.now.disk → UnmarkedSince old new → RepliesIn home S script old new
+RepliesFrom home S None new script = Unit {0}
+RepliesFrom home S (Some old) None script = Unit {0}
+RepliesFrom home S (Some old) (Some new) None = Unit {0}
+
+abbrev pub RepliesStored : PoolId → Option Content → Option Content → Option (List ℕ) → Type 0
+RepliesStored home old new script = RepliesFrom home empty_state old new script
+
+-- a session that was clean
+abbrev pub RepliesClean : Session → Option Content → Option Content → Option (List ℕ) → Type 0
+RepliesClean s (Some old) (Some new) (Some script) = IsQuiet old.now.disk → UnmarkedSince old new → IsCleanSession s old → RepliesIn s.home s.state script old new
+RepliesClean s None new script = Unit {0}
+RepliesClean s (Some old) None script = Unit {0}
+RepliesClean s (Some old) (Some new) None = Unit {0}
+
+-- the clause for the job that the words ask for, where they ask for one
+abbrev pub IfJob : Option Job → (PoolId → Type 0) → Type 0
+IfJob None P = Unit {0}
+IfJob (Some (Run home)) P = P home
 
 -- ---- how much of the script was read
 

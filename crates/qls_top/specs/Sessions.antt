@@ -3,13 +3,15 @@ use Rattle.std.specs.Prelude.{◌≡◌, ℕ, List, ◌++◌, Option, Some, None
 use Rattle.qls_model.specs.Machine.{MachineState, queue_named}
 use Rattle.qls_model.specs.declared.machine.Command.{Command}
 use Rattle.qls_model.specs.declared.machine.Command.TheVariants as command
-use Rattle.qls_site.specs.Content.{Content}
+use Rattle.qls_site.specs.Disk.{IsQuiet}
+use Rattle.qls_site.specs.Content.{Content, moments_since}
 use Rattle.qls_meaning.specs.History.{AllUnmarked}
 use Rattle.qls_pool.specs.Pools.{IsSpent}
 use Rattle.qls_top.specs.declared.answer.Answer.{Answer}
 use Rattle.qls_top.specs.declared.session.Session.{Session}
 use Rattle.qls_top.specs.Answers.{answer_text, answer_built, answer_line}
-use Rattle.qls_top.specs.Moments.{Arrives, IsRunStep, IsSilentStep, StaysQuiet}
+use Rattle.qls_top.specs.Moments.{Chain, Arrives, AtReplies, IsRunStep, IsSilentStep, StaysQuiet, UnmarkedSince}
+use Rattle.qls_top.specs.Stored.{IsStored}
 use Rattle.qls_top.specs.Table.{Fits, IsCleanTable}
 
 abbrev pub FitsSession : Session → Content → Type 0
@@ -43,3 +45,11 @@ pub record RunsLine (was : Session) (asked : Option Command) (s : Session) (old 
   pub answered : new.now.answered ≡ old.now.answered ++ answer_text (answer_line s.home.kib was.state asked).1
   pub fits : FitsSession s new
   pub clean : AllUnmarked old.now arrives.since → IsCleanSession was old → IsCleanSession s new
+
+-- Where nothing was pending, the session was clean and the files that came into use were unmarked: when the line is answered, what is
+-- answered is its answer, and the disk holds the machine's state after it
+abbrev pub RepliesLine : Session → Option Command → Content → Content → Type 0
+RepliesLine was asked old new =
+    let after = answer_line was.home.kib was.state asked in
+    IsQuiet old.now.disk → UnmarkedSince old new → IsCleanSession was old
+    → Chain (AtReplies (λ n. (n.answered ≡ old.now.answered ++ answer_text after.1) × IsStored was.home after.0 n.disk)) old.now (moments_since old new)

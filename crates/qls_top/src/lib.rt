@@ -16,7 +16,7 @@ ghost use Rattle.qls_site.specs.Content.{Tells, Rose};
 ghost use Rattle.qls_top.specs.Words.{job_of};
 ghost use Rattle.qls_top.specs.Moments.{Passes, AnswersQuietly, IsRunStep};
 ghost use Rattle.qls_top.specs.Serials.{DrawsTaken, is_exact};
-ghost use Rattle.qls_top.specs.Run.{ForJob, RunsToEnd, ReadsBytes, Starts, is_too_long, is_status, StartsWith, MayNotBegin, EndsClean, EndsSpent, EndsSpentIn, TakesFilesInOrder, is_exact_status};
+ghost use Rattle.qls_top.specs.Run.{ForJob, RunsToEnd, ReadsBytes, Starts, is_too_long, is_status, StartsWith, MayNotBegin, EndsClean, RepliesStored, RepliesClean, IfJob, EndsSpent, EndsSpentIn, TakesFilesInOrder, is_exact_status};
 ghost use Rattle.qls_top.specs.Sessions.{FitsSession};
 ghost use Rattle.qls_top.specs.Status.{IsOfLines};
 
@@ -62,6 +62,7 @@ pub fn run<R: Source, S: Site, N: Serials>(
     ensures untouched_serials { result ≡ 2 → N.drawn serials.new ≡ N.drawn serials.old }
     ensures done { result ≡ 0 → ForJob (job_of (map string_bytes words.now)) (λ home. RunsToEnd home (S.told site.old) (S.told site.new) (R.left source.old) (R.left source.new)) }
     ensures quiet { Tells AnswersQuietly (S.told site.old) (S.told site.new) }
+    ensures replied { IfJob (job_of (map string_bytes words.now)) (λ home. RepliesStored home (S.told site.old) (S.told site.new) (R.left source.old)) }
     ensures orderly { Tells TakesFilesInOrder (S.told site.old) (S.told site.new) }
     ensures drawn { DrawsTaken (is_exact_status result) (S.told site.old) (S.told site.new) (N.drawn serials.old) (N.drawn serials.new) }
     ensures spent { result ≡ 9 → ForJob (job_of (map string_bytes words.now)) (λ home. EndsSpent home (S.told site.old) (S.told site.new) (R.left source.old)) }
@@ -93,6 +94,7 @@ fn run_script<R: Source, S: Site, N: Serials>(
     ensures done { IfOk result (λ _. RunsToEnd home (S.told site.old) (S.told site.new) (R.left source.old) (R.left source.new)) }
     ensures went { Tells (Passes IsRunStep) (S.told site.old) (S.told site.new) }
     ensures quiet { Tells AnswersQuietly (S.told site.old) (S.told site.new) }
+    ensures replied { RepliesStored home (S.told site.old) (S.told site.new) (R.left source.old) }
     ensures drawn { DrawsTaken (is_exact result) (S.told site.old) (S.told site.new) (N.drawn serials.old) (N.drawn serials.new) }
     ensures spent { result ≡ Err Fault.Spent → EndsSpent home (S.told site.old) (S.told site.new) (R.left source.old) }
     ensures source { result ≡ Err Fault.Source → Rose (R.faults source.old) (R.faults source.new) }
@@ -123,6 +125,7 @@ fn run_lines<R: Source, S: Site, N: Serials>(
     ensures done { IfOk result (λ _. EndsClean session.old (S.told site.old) (S.told site.new) (R.left source.old) (R.left source.new)) }
     ensures went { Tells (Passes IsRunStep) (S.told site.old) (S.told site.new) }
     ensures quiet { Tells AnswersQuietly (S.told site.old) (S.told site.new) }
+    ensures replied { RepliesClean session.old (S.told site.old) (S.told site.new) (R.left source.old) }
     ensures drawn { DrawsTaken (is_exact result) (S.told site.old) (S.told site.new) (N.drawn serials.old) (N.drawn serials.new) }
     ensures spent { result ≡ Err Fault.Spent → EndsSpentIn session.old (S.told site.old) (S.told site.new) (R.left source.old) }
     ensures source { result ≡ Err Fault.Source → Rose (R.faults source.old) (R.faults source.new) }

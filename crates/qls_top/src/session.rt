@@ -27,12 +27,12 @@ ghost use Rattle.qls_command.specs.Lines.{command_of};
 ghost use Rattle.qls_command.specs.Within.{IsWithin};
 ghost use Rattle.qls_top.specs.Status.{IsOfLine, IsOfSite};
 ghost use Rattle.qls_top.specs.Answers.{built, built_line, blocks, answer_text as answer_bytes};
-ghost use Rattle.qls_top.specs.Moments.{EndsIn, Passes, AnswersQuietly, IsRunStep, IsSilentStep};
+ghost use Rattle.qls_top.specs.Moments.{EndsIn, Passes, AddsAnswer, AnswersQuietly, IsRunStep, IsSilentStep};
 ghost use Rattle.qls_top.specs.Table.{entry_named, Fits};
 ghost use Rattle.qls_top.specs.Causes.{CausesOfLine};
 ghost use Rattle.qls_pool.specs.Files.{IdsDiffer, OnDisk};
 ghost use Rattle.qls_top.specs.Serials.{DrawsTaken, TakesNone, is_exact};
-ghost use Rattle.qls_top.specs.Sessions.{FitsSession, RunsCommand, RunsLine, NeedsFile};
+ghost use Rattle.qls_top.specs.Sessions.{FitsSession, RunsCommand, RunsLine, RepliesLine, NeedsFile};
 
 /// The place of the name's entry.
 fn find_entry(files: &[QueueFile], name: &Name) -> Option<usize>
@@ -58,6 +58,7 @@ fn send_answer<S: Site>(alloc: Global, answer: Answer, site: &mut S) -> Result<(
     requires differ { IfSome (S.told site.old) (OnDisk IdsDiffer) }
     ensures told { Tells (EndsIn (λ _. Acts (on_answered (answer_bytes answer))) (Passes IsRunStep) result) (S.told site.old) (S.told site.new) }
     ensures quiet { Tells AnswersQuietly (S.told site.old) (S.told site.new) }
+    ensures adds { Tells (AddsAnswer (answer_bytes answer)) (S.told site.old) (S.told site.new) }
     ensures none { Tells TakesNone (S.told site.old) (S.told site.new) }
     ensures kept { S.faults site.old ≤ S.faults site.new }
     ensures cause { result ≡ Err Fault.Site → Rose (S.faults site.old) (S.faults site.new) }
@@ -72,6 +73,7 @@ fn send_text<S: Site>(text: &[u8], site: &mut S) -> Result<(), Fault>
     requires differ { IfSome (S.told site.old) (OnDisk IdsDiffer) }
     ensures told { Tells (EndsIn (λ _. Acts (on_answered text.now)) (Passes IsRunStep) result) (S.told site.old) (S.told site.new) }
     ensures quiet { Tells AnswersQuietly (S.told site.old) (S.told site.new) }
+    ensures adds { Tells (AddsAnswer (text.now)) (S.told site.old) (S.told site.new) }
     ensures none { Tells TakesNone (S.told site.old) (S.told site.new) }
     ensures kept { S.faults site.old ≤ S.faults site.new }
     ensures cause { result ≡ Err Fault.Site → Rose (S.faults site.old) (S.faults site.new) }
@@ -230,6 +232,7 @@ impl Session {
         requires fits { IfSome (S.told site.old) (FitsSession self.old) }
         ensures told { Tells (EndsIn (λ _. RunsLine self.old (command_of line.now) self.new) (Passes IsRunStep) result) (S.told site.old) (S.told site.new) }
         ensures quiet { Tells AnswersQuietly (S.told site.old) (S.told site.new) }
+        ensures replied { Tells (RepliesLine self.old (command_of line.now)) (S.told site.old) (S.told site.new) }
         ensures drawn { DrawsTaken (is_exact result) (S.told site.old) (S.told site.new) (N.drawn serials.old) (N.drawn serials.new) }
         ensures spent { result ≡ Err Fault.Spent → NeedsFile self.old (built_line (command_of line.now)) }
         ensures no_call { result ≡ Err Fault.Spent → site.new ≡ site.old }

@@ -8,11 +8,12 @@ use Rattle.qls_command.specs.Lines.{command_of}
 use Rattle.qls_top.specs.Cutting.{CutsTold, script_limit}
 use Rattle.qls_top.specs.Moments.{IsRunStep}
 use Rattle.qls_top.specs.Serials.{is_exact, DrawsTaken}
-use Rattle.qls_top.specs.Sessions.{RunsLine, NeedsFile}
+use Rattle.qls_top.specs.Sessions.{RunsLine, RepliesLine, NeedsFile}
 use Rattle.qls_top.proofs.Chains.{went_then, went_of}
 use Rattle.qls_top.proofs.CutLines.{counted_then}
 use Rattle.qls_top.proofs.Drawing.{drawn_then, drawn_any}
 use Rattle.qls_top.proofs.Lines.{line_run, line_went, line_passes, line_fits, line_quieted, line_clean, line_rests, line_spent, read_so_far, script_ended, fails_quietly, quieted_passes, quieted_rests}
+use Rattle.qls_top.proofs.Replying.{line_replies}
 use Rattle.qls_top.proofs.run_lines.Goals as goal
 
 pub loop-line-preserved : goal.loop-line-preserved
@@ -30,6 +31,10 @@ loop-line-preserved g c =
       drawn =
           drawn_then IsRunStep IsRunStep true _ (g.S.Site.told c.loop-line.site) _ _ (g.N.Serials.drawn c.loop-line.serials) _ i.went
           (line_passes c.loop-line.session command c.run_line.new.self (g.S.Site.told c.loop-line.site) _ ran) i.drawn c.in_ok-run_line.ensures.drawn;
+      replied =
+          line_replies c.args.session.now c.loop-line.session _ (g.S.Site.told c.loop-line.site) _ _ (g.R.Source.left c.loop-line.source) _ c.loop-line.script c.next_line.new.self c.next_line.new.line.items script_limit i.home i.under_way i.counted cut
+          i.went i.quieted i.clean i.replied (line_passes c.loop-line.session command c.run_line.new.self (g.S.Site.told c.loop-line.site) _ ran)
+          (subst (λ (bytes : List ℕ). Tells (RepliesLine c.loop-line.session (command_of bytes)) (g.S.Site.told c.loop-line.site) (g.S.Site.told c.run_line.new.site)) c.deref.ensures.value c.in_ok-run_line.ensures.replied);
       under_way = line_run c.args.session.now.home c.args.session.now.state _ (g.S.Site.told c.loop-line.site) _ _ (g.R.Source.left c.loop-line.source) _ c.loop-line.script c.next_line.new.self c.next_line.new.line.items
           c.loop-line.session c.run_line.new.self i.home (c.in_ok-run_line.ensures.home ∙ i.home) i.under_way cut ran;
       counted = counted_then script_limit c.loop-line.script.budget c.next_line.new.self.budget _ (g.R.Source.left c.loop-line.source) _ true c.in_ok-next_line.field-0 i.counted c.in_ok-next_line.ensures.counted;
@@ -67,6 +72,14 @@ returns-in_err-run_line-clause-too_long g c =
     subst (λ (r : Result (Unit {0}) Fault). ReadsBytes (is_too_long r) (g.R.Source.left c.args.source.now) (g.R.Source.left c.next_line.new.source)) is
     (read_so_far c.in_err-run_line.field-0.0 _ _ c.next_line.new.self.budget c.in_err-run_line.ensures.only
     (counted_then script_limit c.loop-line.script.budget c.next_line.new.self.budget _ (g.R.Source.left c.loop-line.source) _ true c.in_ok-next_line.field-0 i.counted c.in_ok-next_line.ensures.counted))
+
+pub returns-in_err-run_line-clause-replied : goal.returns-in_err-run_line-clause-replied
+returns-in_err-run_line-clause-replied g c =
+    let i = c.loop-line.invariant in
+    let cut = subst (λ (b : Bool). CutsTold c.loop-line.script (g.R.Source.left c.loop-line.source) c.next_line.new.self (g.R.Source.left c.next_line.new.source) c.next_line.new.line.items b) c.if-branch.true c.in_ok-next_line.ensures.cut in
+    line_replies c.args.session.now c.loop-line.session _ (g.S.Site.told c.loop-line.site) _ _ (g.R.Source.left c.loop-line.source) _ c.loop-line.script c.next_line.new.self c.next_line.new.line.items script_limit i.home i.under_way i.counted cut
+    i.went i.quieted i.clean i.replied c.in_err-run_line.ensures.told
+    (subst (λ (bytes : List ℕ). Tells (RepliesLine c.loop-line.session (command_of bytes)) (g.S.Site.told c.loop-line.site) (g.S.Site.told c.run_line.new.site)) c.deref.ensures.value c.in_err-run_line.ensures.replied)
 
 pub returns-clause-done : goal.returns-clause-done
 returns-clause-done g c =

@@ -9,6 +9,7 @@ use Rattle.qls_top.specs.Serials.{is_exact, DrawsTaken}
 use Rattle.qls_top.specs.Run.{Starts, RunsToEnd, EndsClean}
 use Rattle.qls_top.proofs.Drawing.{drawn_none}
 use Rattle.qls_top.proofs.Beginning.{Looked, looked, looked_passes, looked_quietly, looked_none, lines_pass, lines_quiet, lines_drawn, if_ok, run_done, run_spent, fits_started, starts_scanned, starts_used, starts_wanting, starts_ready}
+use Rattle.qls_top.proofs.Replying.{run_replies, looked_replies}
 use Rattle.qls_top.proofs.run_script.Goals as goal
 
 -- ---- the scan ended it
@@ -92,3 +93,16 @@ pub returns-clause-starts : goal.returns-clause-starts
 returns-clause-starts g c =
     let none : length c.in_ok-found.found.journals ≡ 0 = omega (arith, c.if-as_slice-gt0.false, ap (λ (js : List JournalFiles). length js) c.as_slice.ensures.same) in
     starts_ready c.in_ok-found.found c.run_lines.result _ _ c.in_ok-found.ensures.found none c.run_lines.ensures.only
+
+pub returns-in_err-found-clause-replied : goal.returns-in_err-found-clause-replied
+returns-in_err-found-clause-replied g c = looked_replies c.args.home _ _ _ (looked _ _ c.scan.ensures.rising c.scan.ensures.told)
+
+pub returns-then-as_slice-gt0-clause-replied : goal.returns-then-as_slice-gt0-clause-replied
+returns-then-as_slice-gt0-clause-replied g c = looked_replies c.args.home _ _ _ (looked _ _ c.scan.ensures.rising c.scan.ensures.told)
+
+pub returns-in_err-pool-clause-replied : goal.returns-in_err-pool-clause-replied
+returns-in_err-pool-clause-replied g c = looked_replies c.args.home _ _ _ (looked _ _ c.scan.ensures.rising c.scan.ensures.told)
+
+pub returns-clause-replied : goal.returns-clause-replied
+returns-clause-replied g c =
+    run_replies c.args.home c.new-session.result _ _ _ _ c.new-session.ensures.home c.new-session.ensures.state c.new-session.ensures.files (looked _ _ c.scan.ensures.rising c.scan.ensures.told) c.run_lines.ensures.went c.run_lines.ensures.replied

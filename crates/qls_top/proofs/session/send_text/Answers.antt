@@ -1,5 +1,5 @@
 use Rattle.std.proofs.Common.{Ok, Err}
-use Rattle.qls_top.specs.Moments.{Passes, AnswersQuietly, IsRunStep}
+use Rattle.qls_top.specs.Moments.{Passes, AddsAnswer, AnswersQuietly, IsRunStep}
 use Rattle.qls_top.specs.Serials.{TakesNone}
 use Rattle.qls_top.proofs.Lines.{told_answers, of_answers}
 use Rattle.qls_top.proofs.session.send_text.Goals as goal
@@ -18,3 +18,9 @@ returns-in-Err-clause-quiet g c = of_answers c.args.text.now AnswersQuietly (λ 
 
 pub returns-in-Err-clause-none : goal.returns-in-Err-clause-none
 returns-in-Err-clause-none g c = of_answers c.args.text.now TakesNone (λ x y a. a.none) _ _ (told_answers c.args.text.now (Err c.in-Err.error) _ _ c.requires.differ c.in-Err.ensures.told)
+
+pub returns-in-Ok-clause-adds : goal.returns-in-Ok-clause-adds
+returns-in-Ok-clause-adds g c = of_answers c.args.text.now (AddsAnswer c.args.text.now) (λ x y a. a.adds) _ _ (told_answers c.args.text.now (Ok tt) _ _ c.requires.differ c.in-Ok.ensures.told)
+
+pub returns-in-Err-clause-adds : goal.returns-in-Err-clause-adds
+returns-in-Err-clause-adds g c = of_answers c.args.text.now (AddsAnswer c.args.text.now) (λ x y a. a.adds) _ _ (told_answers c.args.text.now (Err c.in-Err.error) _ _ c.requires.differ c.in-Err.ensures.told)

@@ -6,6 +6,7 @@ use Rattle.qls_top.specs.Serials.{is_exact}
 use Rattle.qls_top.proofs.Chains.{ends_err, silent_went, silent_quiet}
 use Rattle.qls_top.proofs.Drawing.{drawn_then, drawn_none}
 use Rattle.qls_top.proofs.Lines.{line_ended, line_quiet, command_arrives, differ_after, answer_passes}
+use Rattle.qls_top.proofs.Replying.{told_silent, told_replied}
 use Rattle.qls_top.proofs.session.Session.run_line.Goals as goal
 
 pub send_answer-requires : goal.send_answer-requires
@@ -33,3 +34,12 @@ returns-in_err-answer-clause-told g c = ends_err IsRunStep _ c.from_residual.res
 
 pub returns-in_err-answer-clause-quiet : goal.returns-in_err-answer-clause-quiet
 returns-in_err-answer-clause-quiet g c = silent_quiet _ _ c.in_err-answer.ensures.told
+
+pub returns-in_err-answer-clause-replied : goal.returns-in_err-answer-clause-replied
+returns-in_err-answer-clause-replied g c = told_silent c.args.self.now (command_of c.args.line.now) _ _ c.in_err-answer.ensures.told
+
+pub returns-clause-replied : goal.returns-clause-replied
+returns-clause-replied g c =
+    told_replied c.args.self.now c.answer_line.new.self (command_of c.args.line.now) c.in_ok-answer.answer c.in_ok-answer.ensures.home _ (g.S.Site.told c.answer_line.new.site) _ c.in_ok-answer.ensures.told
+    (answer_passes c.in_ok-answer.answer c.send_answer.result _ _ (differ_after c.args.self.now (built_line (command_of c.args.line.now)) c.answer_line.new.self c.in_ok-answer.answer _ _ c.in_ok-answer.ensures.told) c.send_answer.ensures.told)
+    c.send_answer.ensures.adds
