@@ -1,5 +1,5 @@
 -- A table of entries: what an insert, a removal and a look-up are for the entries in byte order, and that a sort gives these.
-use Rattle.std.proofs.Common.{◌≡◌, ℕ, zero, suc, ◌+◌, Bool, true, false, cond, List, [], ◌∷◌, map, Option, Some, None, is_some, refl, ap, sym, subst, ◌∙◌, arith, add-one, IsPermutation}
+use Rattle.std.proofs.Common.{◌≡◌, ℕ, suc, Bool, true, false, cond, List, [], ◌∷◌, map, Option, Some, None, is_some, refl, ap, sym, subst, ◌∙◌, arith, add-one, IsPermutation}
 use Rattle.std.specs.List.{AllByRecursion, IsDistinct}
 use Rattle.std.specs.List.Sorted.{IsSortedBy}
 use Rattle.std.specs.Map.{lookup, keys_of}
@@ -16,7 +16,7 @@ use Rattle.qls_decide.specs.declared.ListEntry.{ListEntry}
 use Rattle.qls_decide.specs.Entries.{entry_of, without_entry, with_entry}
 use Rattle.qls_replay.specs.Entries.{Pair, entry_for, entries_of}
 use Rattle.qls_replay.proofs.Agreeing.{same_turned}
-use Rattle.qls_replay.proofs.Ordered.{AllAfter, InOrder, behind, later, found_with, found_without, ordered_with, ordered_without, same_entries}
+use Rattle.qls_replay.proofs.Ordered.{InOrder, behind, later, found_with, found_without, ordered_with, ordered_without, same_entries}
 
 pub in_order : (ps : List Pair) → InOrder (entries_of ps)
 in_order [] = tt
