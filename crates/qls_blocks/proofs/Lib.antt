@@ -4,3 +4,4 @@ pub mod Files
 pub mod Spelling
 pub mod Syncs
 pub mod Stream
+pub mod Legal

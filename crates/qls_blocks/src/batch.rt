@@ -34,9 +34,12 @@ impl Model for Batch {
 }
 
 impl Batch {
-    ghost use Rattle.std.specs.Prelude.{◌≡◌, ◌+◌, ◌%◌, ◌≤◌, ◌<◌, ◌++◌, ◌∷◌, [], length, IsTrue, IfOk, IfErr};
+    ghost use Rattle.std.specs.Prelude.{◌≡◌, ◌+◌, ◌%◌, ◌≤◌, ◌<◌, ◌++◌, ◌∷◌, [], Some, length, slice_get, IsTrue, IfOk, IfErr};
+    ghost use Rattle.std.specs.List.{AllByRecursion};
+    ghost use Rattle.qls_shape.specs.declared.Version.TheVariants.{Two};
+    ghost use Rattle.qls_record.specs.Record.{Record, is_legal, record_length};
     ghost use Rattle.qls_record.specs.Head.{is_legal_head, record_with};
-    ghost use Rattle.qls_blocks.specs.Batching.{with_fillers};
+    ghost use Rattle.qls_blocks.specs.Batching.{with_fillers, last_rid};
     ghost use Rattle.qls_blocks.specs.Plans.{plan_of, IsPlanOf};
     ghost use Rattle.qls_blocks.specs.Spelled.{spelled_over};
 
@@ -71,6 +74,31 @@ impl Batch {
         self.length += more;
         self.last_rid = head.rid;
         Ok(())
+    }
+
+    /// How many records the batch has. Each of them is legal.
+    #[tactic(auto, using(crate::proofs::Legal::all_legal))]
+    pub fn len(&self) -> usize
+        ensures exact { result ≡ length self.now }
+        ensures legal { AllByRecursion (λ r. IsTrue (is_legal Two r)) self.now }
+    {
+        self.entries.len()
+    }
+
+    /// How many bytes a record of the batch takes, padding included; the first one is at 0.
+    pub fn length_at(&self, at: usize) -> u64
+        requires there { at < length self.now }
+        ensures exact { (r : Record) → slice_get self.now at ≡ Some r → result ≡ record_length Two r }
+        ensures few { result ≤ 1048832 }
+    {
+        self.entries[at].length()
+    }
+
+    /// The record id of the last record, which is in force behind it; 0 where there is none.
+    pub fn last_rid(&self) -> u64
+        ensures exact { result ≡ last_rid 0 self.now }
+    {
+        self.last_rid
     }
 
     /// How the batch lies over files: its length in bytes with fillers, how many fillers, and what the header of each

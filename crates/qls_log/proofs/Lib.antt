@@ -1,0 +1,15 @@
+pub mod Splits
+pub mod Writes
+pub mod Steps
+pub mod Takes
+pub mod Chains
+pub mod Flushes
+pub mod Gains
+pub mod News
+pub mod Streams
+pub mod Laid
+pub mod Sizes
+pub mod Fits
+pub mod Appends
+pub mod Appended
+pub mod Stands

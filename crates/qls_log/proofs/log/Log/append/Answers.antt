@@ -1,0 +1,182 @@
+use Rattle.std.proofs.Common.{◌≡◌, ℕ, ◌+◌, ◌-◌, ◌*◌, ◌/◌, ◌%◌, ◌<◌, ◌≤◌, [], ◌∷◌, ◌++◌, List, length, drop, false, ◌^◌, Ok, IfSome, IsTrue, refl, sym, ap, ap₂, ◌∙◌, subst, rules, arith, length-append}
+use Rattle.std.specs.List.{AllByRecursion}
+use Rattle.qls_site.specs.Content.{Content, Tells}
+use Rattle.qls_filehdr.specs.Limits.{is_legal_header}
+use Rattle.qls_blocks.specs.declared.plan.FreshFile.{FreshFile}
+use Rattle.qls_blocks.specs.declared.plan.Plan.{Plan}
+use Rattle.qls_blocks.specs.Plans.{plan_of}
+use Rattle.qls_pool.specs.Files.{HeadedFile, IsPoolOf, OnDisk}
+use Rattle.qls_log.specs.Logs.{LogState, FitsFile, IsSound, AreHeaded, capacity_in, ids}
+use Rattle.qls_log.specs.Taking.{TakesFiles, DrawsEach}
+use Rattle.qls_log.specs.Writing.{HaveRoom, from_written}
+use Rattle.qls_log.specs.Standing.{LogThere}
+use Rattle.qls_log.specs.Appending.{FollowRids, HasAppended, TakesAndWrites, StandsBehind, from_newest, written_files, batch_bytes}
+use Rattle.qls_log.proofs.Fits.{plan_fits, filled_legal, rid_behind, rid_of_some}
+use Rattle.qls_log.proofs.Sizes.{block_facts}
+use Rattle.qls_log.proofs.Stands.{told_stands}
+use Rattle.qls_log.proofs.Appended.{sound_capacity, told_room, headed_count, tail_length, sound_after, told_appended, told_writes, told_there, told_pool_after, told_others_after, batch_size}
+use Rattle.qls_log.proofs.log.Log.append.Goals as goal
+
+pub take_files-requires-clause-fits : goal.take_files-requires-clause-fits
+take_files-requires-clause-fits g c =
+    let sound : IsSound (record { opening = c.self.inside.opening; files = c.self.inside.files.items; newest = c.self.inside.newest; used = c.self.inside.used; rid = c.self.inside.rid; unsynced = c.self.inside.unsynced; ended = c.self.inside.ended }) = c.self.invariant (ap (λ (l : LogState). l.ended) c.self.view_is ∙ c.requires.unended) in
+    subst (AllByRecursion (FitsFile c.self.inside.opening.home.kib)) (sym c.as_slice-fresh.ensures.same)
+    (plan_fits c.self.inside.opening.home.kib c.capacity-capacity.result c.self.inside.rid c.self.inside.used c.args.batch.now c.in_ok-plan.plan c.in_ok-plan.ensures.exact c.capacity-capacity.ensures.exact
+    (subst (λ n. n % 4096 ≡ 0) (sym c.capacity-capacity.ensures.exact) (sound_capacity c.self.inside.opening sound.opening).1) sound.used.0 sound.rid
+    (subst (λ (l : LogState). FollowRids l.rid c.args.batch.now) (sym c.self.view_is) c.requires.rids))
+
+pub write_batch-requires-clause-files : goal.write_batch-requires-clause-files
+write_batch-requires-clause-files g c =
+    let sound : IsSound (record { opening = c.self.inside.opening; files = c.self.inside.files.items; newest = c.self.inside.newest; used = c.self.inside.used; rid = c.self.inside.rid; unsynced = c.self.inside.unsynced; ended = c.self.inside.ended }) = c.self.invariant (ap (λ (l : LogState). l.ended) c.self.view_is ∙ c.requires.unended) in
+    let over : c.files_from-over.result.now ≡ drop (length c.self.inside.files.items - 1) (c.self.inside.files.items ++ c.in_ok-taken.taken.items) = search rules in
+    ap length over ∙ tail_length c.self.inside.files.items c.in_ok-taken.taken.items (length c.in_ok-plan.plan.fresh) sound.some (headed_count c.self.inside.opening c.self.inside.newest c.as_slice-fresh.result.now c.in_ok-taken.taken.items c.in_ok-taken.ensures.headers ∙ ap length c.as_slice-fresh.ensures.same)
+
+pub write_batch-requires-clause-there : goal.write_batch-requires-clause-there
+write_batch-requires-clause-there g c =
+    let l : LogState = record { opening = c.self.inside.opening; files = c.self.inside.files.items; newest = c.self.inside.newest; used = c.self.inside.used; rid = c.self.inside.rid; unsynced = c.self.inside.unsynced; ended = c.self.inside.ended } in
+    let sound : IsSound l = c.self.invariant (ap (λ (x : LogState). x.ended) c.self.view_is ∙ c.requires.unended) in
+    let over : c.files_from-over.result.now ≡ drop (length c.self.inside.files.items - 1) (c.self.inside.files.items ++ c.in_ok-taken.taken.items) = search rules in
+    subst (λ (hs : List HeadedFile). IfSome (g.S.Site.told c.take_files.new.site) (HaveRoom c.capacity-capacity.result (ids hs))) (sym over)
+    (subst (λ n. IfSome (g.S.Site.told c.take_files.new.site) (HaveRoom n (ids (from_newest l c.in_ok-taken.taken.items)))) (sym c.capacity-capacity.ensures.exact)
+    (told_room l sound (ap (λ (x : LogState). x.unsynced) c.self.view_is ∙ c.requires.flushed) c.args.pool.now c.take_files.new.pool c.in_ok-taken.taken.items c.as_slice-fresh.result.now c.in_ok-taken.ensures.headers c.in_ok-taken.ensures.legal _ _
+    c.in_ok-taken.ensures.told (subst (λ (x : LogState). IfSome (g.S.Site.told c.args.site.now) (OnDisk (LogThere x))) (sym c.self.view_is) c.requires.there) c.requires.pool))
+
+pub used_behind-self-inside-requires-clause-length : goal.used_behind-self-inside-requires-clause-length
+used_behind-self-inside-requires-clause-length g c = block_facts c.args.batch.now c.in_ok-plan.plan.length c.requires.some c.in_ok-plan.ensures.own.bytes
+
+pub invariant_of-self-2 : goal.invariant_of-self-2
+invariant_of-self-2 g c = λ e.
+    let l : LogState = record { opening = c.self.inside.opening; files = c.self.inside.files.items; newest = c.self.inside.newest; used = c.self.inside.used; rid = c.self.inside.rid; unsynced = c.self.inside.unsynced; ended = c.self.inside.ended } in
+    let new : LogState = record { opening = c.self.inside.opening; files = c.append.new.self.items; newest = c.self.inside.newest + length c.as_slice-fresh.result.now; used = c.used_behind-self-inside.result; rid = c.last_rid-self-inside.result; unsynced = c.in_ok-written.written; ended = false } in
+    let sound : IsSound l = c.self.invariant (ap (λ (x : LogState). x.ended) c.self.view_is ∙ c.requires.unended) in
+    let cap : c.capacity-capacity.result ≡ capacity_in l.opening = c.capacity-capacity.ensures.exact in
+    let taken : List HeadedFile = c.in_ok-taken.taken.items in
+    let files : new.files ≡ l.files ++ taken = c.in_ok-append.ensures.items in
+    let count : length taken ≡ length c.as_slice-fresh.result.now = headed_count l.opening l.newest c.as_slice-fresh.result.now taken c.in_ok-taken.ensures.headers in
+    sound_after l c.as_slice-fresh.result.now taken new sound c.in_ok-taken.ensures.headers refl files (ap (λ n. l.newest + n) (sym count)) (subst (λ n. l.newest + n < 2 ^ 62) count c.in_ok-taken.ensures.newest)
+    (c.used_behind-self-inside.ensures.blocks, subst (λ n. c.used_behind-self-inside.result ≤ n) cap c.used_behind-self-inside.ensures.within)
+    (subst (λ n. n < 2 ^ 62) (sym c.last_rid-self-inside.ensures.exact) (rid_behind l.rid c.args.batch.now (subst (λ (x : LogState). FollowRids x.rid c.args.batch.now) (sym c.self.view_is) c.requires.rids)))
+
+pub returns-clause-appended : goal.returns-clause-appended
+returns-clause-appended g c =
+    let l : LogState = record { opening = c.self.inside.opening; files = c.self.inside.files.items; newest = c.self.inside.newest; used = c.self.inside.used; rid = c.self.inside.rid; unsynced = c.self.inside.unsynced; ended = c.self.inside.ended } in
+    let new : LogState = record { opening = c.self.inside.opening; files = c.append.new.self.items; newest = c.self.inside.newest + length c.as_slice-fresh.result.now; used = c.used_behind-self-inside.result; rid = c.last_rid-self-inside.result; unsynced = c.in_ok-written.written; ended = false } in
+    let sound : IsSound l = c.self.invariant (ap (λ (x : LogState). x.ended) c.self.view_is ∙ c.requires.unended) in
+    let cap : c.capacity-capacity.result ≡ capacity_in l.opening = c.capacity-capacity.ensures.exact in
+    let taken : List HeadedFile = c.in_ok-taken.taken.items in
+    let files : new.files ≡ l.files ++ taken = c.in_ok-append.ensures.items in
+    let count : length taken ≡ length c.as_slice-fresh.result.now = headed_count l.opening l.newest c.as_slice-fresh.result.now taken c.in_ok-taken.ensures.headers in
+    let over : c.files_from-over.result.now ≡ from_newest l taken = search rules in
+    let written : c.in_ok-written.written ≡ ids (from_written c.capacity-capacity.result l.used c.files_from-over.result.now) = c.in_ok-written.ensures.written in
+    subst (λ (x : LogState). (t : List HeadedFile) × HasAppended c.args.batch.now x new t × DrawsEach t (g.N.Serials.drawn c.args.serials.now) (g.N.Serials.drawn c.take_files.new.serials)
+    × Tells (TakesAndWrites c.args.batch.now x new c.args.pool.now c.take_files.new.pool t) (g.S.Site.told c.args.site.now) (g.S.Site.told c.write_batch.new.site)) c.self.view_is (
+      taken,
+      record {
+        headers =
+            subst (λ (xs : List FreshFile). AreHeaded l.opening l.newest xs taken)
+            (c.as_slice-fresh.ensures.same ∙ ap (λ (p : Plan). p.fresh) (c.in_ok-plan.ensures.exact ∙ ap (λ n. plan_of c.args.batch.now l.used n l.rid) cap)) c.in_ok-taken.ensures.headers;
+        opening = refl;
+        files = files;
+        newest = ap (λ n. l.newest + n) (sym count);
+        used =
+            (λ i. c.used_behind-self-inside.result + sym cap i * count i) ∙ c.used_behind-self-inside.ensures.exact ∙ ap (λ n. l.used + n) c.in_ok-plan.ensures.own.bytes;
+        rid = c.last_rid-self-inside.ensures.exact ∙ rid_of_some 0 l.rid c.args.batch.now c.requires.some;
+        unsynced = written ∙ (λ i. ids (from_written (cap i) l.used (over i)));
+        ended = refl;
+      },
+      c.in_ok-taken.ensures.drawn,
+      told_appended c.args.batch.now l new c.args.pool.now c.take_files.new.pool taken c.files_from-over.result.now c.capacity-capacity.result c.in_ok-written.written _ _ _ cap over written
+          c.in_ok-taken.ensures.told c.in_ok-written.ensures.told,
+    )
+
+pub returns-clause-there : goal.returns-clause-there
+returns-clause-there g c =
+    let l : LogState = record { opening = c.self.inside.opening; files = c.self.inside.files.items; newest = c.self.inside.newest; used = c.self.inside.used; rid = c.self.inside.rid; unsynced = c.self.inside.unsynced; ended = c.self.inside.ended } in
+    let new : LogState = record { opening = c.self.inside.opening; files = c.append.new.self.items; newest = c.self.inside.newest + length c.as_slice-fresh.result.now; used = c.used_behind-self-inside.result; rid = c.last_rid-self-inside.result; unsynced = c.in_ok-written.written; ended = false } in
+    let sound : IsSound l = c.self.invariant (ap (λ (x : LogState). x.ended) c.self.view_is ∙ c.requires.unended) in
+    let cap : c.capacity-capacity.result ≡ capacity_in l.opening = c.capacity-capacity.ensures.exact in
+    let taken : List HeadedFile = c.in_ok-taken.taken.items in
+    let files : new.files ≡ l.files ++ taken = c.in_ok-append.ensures.items in
+    let count : length taken ≡ length c.as_slice-fresh.result.now = headed_count l.opening l.newest c.as_slice-fresh.result.now taken c.in_ok-taken.ensures.headers in
+    let over : c.files_from-over.result.now ≡ from_newest l taken = search rules in
+    let written : c.in_ok-written.written ≡ ids (from_written c.capacity-capacity.result l.used c.files_from-over.result.now) = c.in_ok-written.ensures.written in
+    let unsynced : new.unsynced ≡ ids (written_files l taken) = written ∙ (λ i. ids (from_written (cap i) l.used (over i))) in
+    let writes = told_writes c.args.batch.now l taken c.files_from-over.result.now c.capacity-capacity.result c.in_ok-written.written (g.S.Site.told c.take_files.new.site) (g.S.Site.told c.write_batch.new.site) cap over written c.in_ok-written.ensures.told in
+    let size : length (batch_bytes l taken c.args.batch.now) ≡ c.in_ok-plan.plan.length = batch_size l taken c.args.batch.now c.in_ok-plan.plan.length c.in_ok-plan.ensures.own.bytes in
+    let some : 0 < length (batch_bytes l taken c.args.batch.now) = subst (λ n. 0 < n) (sym size) (block_facts c.args.batch.now c.in_ok-plan.plan.length c.requires.some c.in_ok-plan.ensures.own.bytes).0 in
+    let number : length taken ≡ (l.used + length (batch_bytes l taken c.args.batch.now) - 1) / capacity_in l.opening =
+    count ∙ ap length c.as_slice-fresh.ensures.same ∙ c.in_ok-plan.ensures.own.files ∙ (λ i. (l.used + sym size i - 1) / cap i) in
+    let flushed : l.unsynced ≡ [] = ap (λ (x : LogState). x.unsynced) c.self.view_is ∙ c.requires.flushed in
+    let there : IfSome (g.S.Site.told c.args.site.now) (OnDisk (LogThere l)) = subst (λ (x : LogState). IfSome (g.S.Site.told c.args.site.now) (OnDisk (LogThere x))) (sym c.self.view_is) c.requires.there in
+    told_there l sound flushed c.args.pool.now c.take_files.new.pool taken c.as_slice-fresh.result.now c.in_ok-taken.ensures.headers c.in_ok-taken.ensures.legal (batch_bytes l taken c.args.batch.now) some number
+    new refl files unsynced _ _ _ c.in_ok-taken.ensures.told writes there c.requires.pool
+
+pub returns-clause-pool : goal.returns-clause-pool
+returns-clause-pool g c =
+    let l : LogState = record { opening = c.self.inside.opening; files = c.self.inside.files.items; newest = c.self.inside.newest; used = c.self.inside.used; rid = c.self.inside.rid; unsynced = c.self.inside.unsynced; ended = c.self.inside.ended } in
+    let new : LogState = record { opening = c.self.inside.opening; files = c.append.new.self.items; newest = c.self.inside.newest + length c.as_slice-fresh.result.now; used = c.used_behind-self-inside.result; rid = c.last_rid-self-inside.result; unsynced = c.in_ok-written.written; ended = false } in
+    let sound : IsSound l = c.self.invariant (ap (λ (x : LogState). x.ended) c.self.view_is ∙ c.requires.unended) in
+    let cap : c.capacity-capacity.result ≡ capacity_in l.opening = c.capacity-capacity.ensures.exact in
+    let taken : List HeadedFile = c.in_ok-taken.taken.items in
+    let files : new.files ≡ l.files ++ taken = c.in_ok-append.ensures.items in
+    let count : length taken ≡ length c.as_slice-fresh.result.now = headed_count l.opening l.newest c.as_slice-fresh.result.now taken c.in_ok-taken.ensures.headers in
+    let over : c.files_from-over.result.now ≡ from_newest l taken = search rules in
+    let written : c.in_ok-written.written ≡ ids (from_written c.capacity-capacity.result l.used c.files_from-over.result.now) = c.in_ok-written.ensures.written in
+    let unsynced : new.unsynced ≡ ids (written_files l taken) = written ∙ (λ i. ids (from_written (cap i) l.used (over i))) in
+    let writes = told_writes c.args.batch.now l taken c.files_from-over.result.now c.capacity-capacity.result c.in_ok-written.written (g.S.Site.told c.take_files.new.site) (g.S.Site.told c.write_batch.new.site) cap over written c.in_ok-written.ensures.told in
+    let size : length (batch_bytes l taken c.args.batch.now) ≡ c.in_ok-plan.plan.length = batch_size l taken c.args.batch.now c.in_ok-plan.plan.length c.in_ok-plan.ensures.own.bytes in
+    let some : 0 < length (batch_bytes l taken c.args.batch.now) = subst (λ n. 0 < n) (sym size) (block_facts c.args.batch.now c.in_ok-plan.plan.length c.requires.some c.in_ok-plan.ensures.own.bytes).0 in
+    let number : length taken ≡ (l.used + length (batch_bytes l taken c.args.batch.now) - 1) / capacity_in l.opening =
+    count ∙ ap length c.as_slice-fresh.ensures.same ∙ c.in_ok-plan.ensures.own.files ∙ (λ i. (l.used + sym size i - 1) / cap i) in
+    let flushed : l.unsynced ≡ [] = ap (λ (x : LogState). x.unsynced) c.self.view_is ∙ c.requires.flushed in
+    let there : IfSome (g.S.Site.told c.args.site.now) (OnDisk (LogThere l)) = subst (λ (x : LogState). IfSome (g.S.Site.told c.args.site.now) (OnDisk (LogThere x))) (sym c.self.view_is) c.requires.there in
+    told_pool_after l sound flushed c.args.pool.now c.take_files.new.pool taken c.as_slice-fresh.result.now c.in_ok-taken.ensures.headers c.in_ok-taken.ensures.legal (batch_bytes l taken c.args.batch.now) some number
+    new refl files unsynced _ _ _ c.in_ok-taken.ensures.told writes there c.requires.pool
+
+pub returns-clause-others : goal.returns-clause-others
+returns-clause-others g c =
+    let l : LogState = record { opening = c.self.inside.opening; files = c.self.inside.files.items; newest = c.self.inside.newest; used = c.self.inside.used; rid = c.self.inside.rid; unsynced = c.self.inside.unsynced; ended = c.self.inside.ended } in
+    let new : LogState = record { opening = c.self.inside.opening; files = c.append.new.self.items; newest = c.self.inside.newest + length c.as_slice-fresh.result.now; used = c.used_behind-self-inside.result; rid = c.last_rid-self-inside.result; unsynced = c.in_ok-written.written; ended = false } in
+    let sound : IsSound l = c.self.invariant (ap (λ (x : LogState). x.ended) c.self.view_is ∙ c.requires.unended) in
+    let cap : c.capacity-capacity.result ≡ capacity_in l.opening = c.capacity-capacity.ensures.exact in
+    let taken : List HeadedFile = c.in_ok-taken.taken.items in
+    let files : new.files ≡ l.files ++ taken = c.in_ok-append.ensures.items in
+    let count : length taken ≡ length c.as_slice-fresh.result.now = headed_count l.opening l.newest c.as_slice-fresh.result.now taken c.in_ok-taken.ensures.headers in
+    let over : c.files_from-over.result.now ≡ from_newest l taken = search rules in
+    let written : c.in_ok-written.written ≡ ids (from_written c.capacity-capacity.result l.used c.files_from-over.result.now) = c.in_ok-written.ensures.written in
+    let unsynced : new.unsynced ≡ ids (written_files l taken) = written ∙ (λ i. ids (from_written (cap i) l.used (over i))) in
+    let writes = told_writes c.args.batch.now l taken c.files_from-over.result.now c.capacity-capacity.result c.in_ok-written.written (g.S.Site.told c.take_files.new.site) (g.S.Site.told c.write_batch.new.site) cap over written c.in_ok-written.ensures.told in
+    let size : length (batch_bytes l taken c.args.batch.now) ≡ c.in_ok-plan.plan.length = batch_size l taken c.args.batch.now c.in_ok-plan.plan.length c.in_ok-plan.ensures.own.bytes in
+    let some : 0 < length (batch_bytes l taken c.args.batch.now) = subst (λ n. 0 < n) (sym size) (block_facts c.args.batch.now c.in_ok-plan.plan.length c.requires.some c.in_ok-plan.ensures.own.bytes).0 in
+    let number : length taken ≡ (l.used + length (batch_bytes l taken c.args.batch.now) - 1) / capacity_in l.opening =
+    count ∙ ap length c.as_slice-fresh.ensures.same ∙ c.in_ok-plan.ensures.own.files ∙ (λ i. (l.used + sym size i - 1) / cap i) in
+    let flushed : l.unsynced ≡ [] = ap (λ (x : LogState). x.unsynced) c.self.view_is ∙ c.requires.flushed in
+    let there : IfSome (g.S.Site.told c.args.site.now) (OnDisk (LogThere l)) = subst (λ (x : LogState). IfSome (g.S.Site.told c.args.site.now) (OnDisk (LogThere x))) (sym c.self.view_is) c.requires.there in
+    told_others_after l c.args.pool.now c.take_files.new.pool taken c.as_slice-fresh.result.now c.in_ok-taken.ensures.headers c.in_ok-taken.ensures.legal (batch_bytes l taken c.args.batch.now) new.files files _ _ _
+    c.in_ok-taken.ensures.told writes
+
+pub returns-clause-stands : goal.returns-clause-stands
+returns-clause-stands g c =
+    let l : LogState = record { opening = c.self.inside.opening; files = c.self.inside.files.items; newest = c.self.inside.newest; used = c.self.inside.used; rid = c.self.inside.rid; unsynced = c.self.inside.unsynced; ended = c.self.inside.ended } in
+    let new : LogState = record { opening = c.self.inside.opening; files = c.append.new.self.items; newest = c.self.inside.newest + length c.as_slice-fresh.result.now; used = c.used_behind-self-inside.result; rid = c.last_rid-self-inside.result; unsynced = c.in_ok-written.written; ended = false } in
+    let sound : IsSound l = c.self.invariant (ap (λ (x : LogState). x.ended) c.self.view_is ∙ c.requires.unended) in
+    let cap : c.capacity-capacity.result ≡ capacity_in l.opening = c.capacity-capacity.ensures.exact in
+    let taken : List HeadedFile = c.in_ok-taken.taken.items in
+    let files : new.files ≡ l.files ++ taken = c.in_ok-append.ensures.items in
+    let count : length taken ≡ length c.as_slice-fresh.result.now = headed_count l.opening l.newest c.as_slice-fresh.result.now taken c.in_ok-taken.ensures.headers in
+    let over : c.files_from-over.result.now ≡ from_newest l taken = search rules in
+    let written : c.in_ok-written.written ≡ ids (from_written c.capacity-capacity.result l.used c.files_from-over.result.now) = c.in_ok-written.ensures.written in
+    let unsynced : new.unsynced ≡ ids (written_files l taken) = written ∙ (λ i. ids (from_written (cap i) l.used (over i))) in
+    let writes = told_writes c.args.batch.now l taken c.files_from-over.result.now c.capacity-capacity.result c.in_ok-written.written (g.S.Site.told c.take_files.new.site) (g.S.Site.told c.write_batch.new.site) cap over written c.in_ok-written.ensures.told in
+    let size : length (batch_bytes l taken c.args.batch.now) ≡ c.in_ok-plan.plan.length = batch_size l taken c.args.batch.now c.in_ok-plan.plan.length c.in_ok-plan.ensures.own.bytes in
+    let some : 0 < length (batch_bytes l taken c.args.batch.now) = subst (λ n. 0 < n) (sym size) (block_facts c.args.batch.now c.in_ok-plan.plan.length c.requires.some c.in_ok-plan.ensures.own.bytes).0 in
+    let number : length taken ≡ (l.used + length (batch_bytes l taken c.args.batch.now) - 1) / capacity_in l.opening =
+    count ∙ ap length c.as_slice-fresh.ensures.same ∙ c.in_ok-plan.ensures.own.files ∙ (λ i. (l.used + sym size i - 1) / cap i) in
+    let flushed : l.unsynced ≡ [] = ap (λ (x : LogState). x.unsynced) c.self.view_is ∙ c.requires.flushed in
+    let there : IfSome (g.S.Site.told c.args.site.now) (OnDisk (LogThere l)) = subst (λ (x : LogState). IfSome (g.S.Site.told c.args.site.now) (OnDisk (LogThere x))) (sym c.self.view_is) c.requires.there in
+    let rids = subst (λ (x : LogState). FollowRids x.rid c.args.batch.now) (sym c.self.view_is) c.requires.rids in
+    let used : new.used + capacity_in l.opening * length taken ≡ l.used + length (batch_bytes l taken c.args.batch.now) =
+    (λ i. c.used_behind-self-inside.result + sym cap i * count i) ∙ c.used_behind-self-inside.ensures.exact ∙ ap (λ n. l.used + n) (sym size) in
+    subst (λ (x : LogState). Tells (StandsBehind c.args.batch.now x new) (g.S.Site.told c.args.site.now) (g.S.Site.told c.write_batch.new.site)) c.self.view_is
+    (told_stands l sound flushed c.args.pool.now c.take_files.new.pool taken c.as_slice-fresh.result.now c.in_ok-taken.ensures.headers c.in_ok-taken.ensures.legal c.args.batch.now
+    (filled_legal l.rid c.args.batch.now rids c.in_ok-spots.ensures.legal) some number new refl files used _ _ _ c.in_ok-taken.ensures.told writes there c.requires.pool)

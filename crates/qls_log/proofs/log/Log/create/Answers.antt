@@ -1,0 +1,51 @@
+use Rattle.std.proofs.Common.{◌≡◌, ℕ, ◌*◌, ◌≤◌, true, [], ◌∷◌, List, Err, IfSome, IsTrue, sym, ap, ◌∙◌, subst, rules, arith}
+use Rattle.std.specs.List.{AllByRecursion}
+use Rattle.qls_site.specs.Content.{Tells}
+use Rattle.qls_model.specs.Limits.{is_kib}
+use Rattle.qls_filehdr.specs.Limits.{is_legal_header}
+use Rattle.qls_pool.specs.Files.{HeadedFile, OnDisk}
+use Rattle.qls_log.specs.declared.opening.Opening.{Opening}
+use Rattle.qls_log.specs.Logs.{LogState}
+use Rattle.qls_log.specs.Taking.{TakesFiles}
+use Rattle.qls_log.specs.Standing.{LogThere, StandsWith}
+use Rattle.qls_log.specs.Appending.{IsNew, new_log, ReadsNone}
+use Rattle.qls_log.proofs.News.{spent_at_once, told_new, told_start, told_reads, told_others, room_of}
+use Rattle.qls_log.proofs.log.Log.create.Goals as goal
+
+pub returns-in_err-files-clause-spent : goal.returns-in_err-files-clause-spent
+returns-in_err-files-clause-spent g c = λ e. spent_at_once (record { kind = c.args.kind; name = c.args.name; home = c.args.home; epoch = 1 }) c.take_files.new.pool (c.in_err-files.ensures.spent (search rules))
+
+pub returns-clause-new : goal.returns-clause-new
+returns-clause-new g c = search rules
+
+pub returns-clause-others : goal.returns-clause-others
+returns-clause-others g c =
+    told_others (record { kind = c.args.kind; name = c.args.name; home = c.args.home; epoch = 1 }) c.args.pool.now c.take_files.new.pool c.in_ok-files.files.items 0 (record { first = 4096; rid = 0 } ∷ [])
+    c.in_ok-files.ensures.headers c.in_ok-files.ensures.legal _ _ c.in_ok-files.ensures.told
+
+pub returns-clause-there : goal.returns-clause-there
+returns-clause-there g c =
+    let o : Opening = record { kind = c.args.kind; name = c.args.name; home = c.args.home; epoch = 1 } in
+    let n = returns-clause-new g c in
+    let files : c.in_ok-files.files.items ≡ n.file ∷ [] = ap (λ (l : LogState). l.files) n.log in
+    subst (λ (l : LogState). IfSome (g.S.Site.told c.take_files.new.site) (OnDisk (LogThere l))) (sym n.log)
+    (told_new o c.args.pool.now c.take_files.new.pool n.file n.header (subst (λ (hs : List HeadedFile). AllByRecursion (λ h. IsTrue (is_legal_header h.header)) hs) files c.in_ok-files.ensures.legal) _ _
+    (subst (λ (hs : List HeadedFile). Tells (TakesFiles o.home c.args.pool.now c.take_files.new.pool hs) (g.S.Site.told c.args.site.now) (g.S.Site.told c.take_files.new.site)) files c.in_ok-files.ensures.told) c.requires.pool c.requires.new)
+
+pub returns-clause-reading : goal.returns-clause-reading
+returns-clause-reading g c =
+    let o : Opening = record { kind = c.args.kind; name = c.args.name; home = c.args.home; epoch = 1 } in
+    let n = returns-clause-new g c in
+    let files : c.in_ok-files.files.items ≡ n.file ∷ [] = ap (λ (l : LogState). l.files) n.log in
+    subst (λ (l : LogState). Tells (ReadsNone l) (g.S.Site.told c.args.site.now) (g.S.Site.told c.take_files.new.site)) (sym n.log)
+    (told_reads o c.args.pool.now c.take_files.new.pool n.file n.header (subst (λ (hs : List HeadedFile). AllByRecursion (λ h. IsTrue (is_legal_header h.header)) hs) files c.in_ok-files.ensures.legal) _ _ (room_of o c.requires.legal.kib)
+    (subst (λ (hs : List HeadedFile). Tells (TakesFiles o.home c.args.pool.now c.take_files.new.pool hs) (g.S.Site.told c.args.site.now) (g.S.Site.told c.take_files.new.site)) files c.in_ok-files.ensures.told) c.requires.pool c.requires.new)
+
+pub returns-clause-stands : goal.returns-clause-stands
+returns-clause-stands g c =
+    let o : Opening = record { kind = c.args.kind; name = c.args.name; home = c.args.home; epoch = 1 } in
+    let n = returns-clause-new g c in
+    let files : c.in_ok-files.files.items ≡ n.file ∷ [] = ap (λ (l : LogState). l.files) n.log in
+    subst (λ (l : LogState). IfSome (g.S.Site.told c.take_files.new.site) (OnDisk (StandsWith l []))) (sym n.log)
+    (told_start o c.args.pool.now c.take_files.new.pool n.file n.header (subst (λ (hs : List HeadedFile). AllByRecursion (λ h. IsTrue (is_legal_header h.header)) hs) files c.in_ok-files.ensures.legal) _ _
+    (subst (λ (hs : List HeadedFile). Tells (TakesFiles o.home c.args.pool.now c.take_files.new.pool hs) (g.S.Site.told c.args.site.now) (g.S.Site.told c.take_files.new.site)) files c.in_ok-files.ensures.told) c.requires.pool c.requires.new)

@@ -1,0 +1,65 @@
+use Rattle.std.proofs.Common.{◌≡◌, [], Ok, Err, IfSome, sym, ap, subst, List, ℕ, rules}
+use Rattle.qls_site.specs.Content.{Tells}
+use Rattle.qls_blocks.specs.Parts.{Syncs, HasFiles}
+use Rattle.qls_pool.specs.Files.{OnDisk, Carries}
+use Rattle.qls_log.specs.declared.fault.LogError.{LogError}
+use Rattle.qls_log.specs.Logs.{LogState}
+use Rattle.qls_log.specs.Standing.{LogThere, IsUnmarkedBehind}
+use Rattle.qls_log.specs.Appending.{StandsStill, IsQuietBut, ReadsInImages}
+use Rattle.qls_log.proofs.Flushes.{there_are, waiting_of, told_same, told_pool, told_quiet, told_images, told_there, told_still, told_behind, told_orderly_ok, told_orderly_err}
+use Rattle.qls_log.proofs.log.Log.flush.Goals as goal
+
+pub sync_parts-requires : goal.sync_parts-requires
+sync_parts-requires g c = record {
+  there =
+      subst (λ (l : LogState). IfSome (g.S.Site.told c.args.site.now) (HasFiles l.unsynced)) (sym c.self.view_is)
+      (there_are c.args.self.now.unsynced (g.S.Site.told c.args.site.now) (waiting_of c.args.self.now (g.S.Site.told c.args.site.now) c.requires.there));
+}
+
+pub returns-in_err-sync_parts-clause-reading : goal.returns-in_err-sync_parts-clause-reading
+returns-in_err-sync_parts-clause-reading g c = told_same c.self.inside.unsynced (Err c.in_err-sync_parts.field-0.0) _ _ c.in_err-sync_parts.ensures.told
+
+pub returns-in_err-sync_parts-clause-pool : goal.returns-in_err-sync_parts-clause-pool
+returns-in_err-sync_parts-clause-pool g c = λ pool out. told_pool c.self.inside.unsynced (Err c.in_err-sync_parts.field-0.0) pool out _ _ c.in_err-sync_parts.ensures.told
+
+pub returns-in_err-sync_parts-clause-orderly : goal.returns-in_err-sync_parts-clause-orderly
+returns-in_err-sync_parts-clause-orderly g c = told_orderly_err c.self.inside.unsynced c.in_err-sync_parts.field-0.0 c.from_residual.result _ _ c.from_residual.ensures.0 c.in_err-sync_parts.ensures.told
+
+pub returns-clause-log : goal.returns-clause-log
+returns-clause-log g c = search rules
+
+pub returns-clause-there : goal.returns-clause-there
+returns-clause-there g c =
+    subst (λ (l : LogState). IfSome (g.S.Site.told c.sync_parts.new.site) (OnDisk (LogThere l))) (sym (returns-clause-log g c))
+    (told_there c.args.self.now _ _ _
+    (subst (λ (l : LogState). Tells (Syncs l.unsynced (Ok c.in_ok-sync_parts.field-0)) (g.S.Site.told c.args.site.now) (g.S.Site.told c.sync_parts.new.site)) c.self.view_is c.in_ok-sync_parts.ensures.told) c.requires.there)
+
+pub returns-clause-reading : goal.returns-clause-reading
+returns-clause-reading g c = told_same c.self.inside.unsynced (Ok c.in_ok-sync_parts.field-0) _ _ c.in_ok-sync_parts.ensures.told
+
+pub returns-clause-behind : goal.returns-clause-behind
+returns-clause-behind g c =
+    subst (λ (l : LogState). Carries (IsUnmarkedBehind c.args.self.now) (IsUnmarkedBehind l) (g.S.Site.told c.args.site.now) (g.S.Site.told c.sync_parts.new.site)) (sym (returns-clause-log g c))
+    (told_behind c.args.self.now c.self.inside.unsynced (Ok c.in_ok-sync_parts.field-0) _ _ c.in_ok-sync_parts.ensures.told)
+
+pub returns-clause-pool : goal.returns-clause-pool
+returns-clause-pool g c = λ pool out. told_pool c.self.inside.unsynced (Ok c.in_ok-sync_parts.field-0) pool out _ _ c.in_ok-sync_parts.ensures.told
+
+pub returns-clause-quiet : goal.returns-clause-quiet
+returns-clause-quiet g c =
+    subst (λ (l : LogState). Carries (IsQuietBut l.unsynced) Rattle.qls_site.specs.Disk.IsQuiet (g.S.Site.told c.args.site.now) (g.S.Site.told c.sync_parts.new.site)) c.self.view_is
+    (told_quiet c.self.inside.unsynced _ _ _ c.in_ok-sync_parts.ensures.told)
+
+pub returns-clause-images : goal.returns-clause-images
+returns-clause-images g c =
+    subst (λ (l : LogState). Carries (IsQuietBut c.args.self.now.unsynced) (ReadsInImages l) (g.S.Site.told c.args.site.now) (g.S.Site.told c.sync_parts.new.site)) (sym (returns-clause-log g c))
+    (told_images (record c.args.self.now { unsynced = [] }) c.args.self.now.unsynced _ _ _
+    (subst (λ (l : LogState). Tells (Syncs l.unsynced (Ok c.in_ok-sync_parts.field-0)) (g.S.Site.told c.args.site.now) (g.S.Site.told c.sync_parts.new.site)) c.self.view_is c.in_ok-sync_parts.ensures.told))
+
+pub returns-clause-orderly : goal.returns-clause-orderly
+returns-clause-orderly g c = told_orderly_ok LogError c.self.inside.unsynced _ (tt {0}) _ _ c.in_ok-sync_parts.ensures.told
+
+pub returns-clause-stands : goal.returns-clause-stands
+returns-clause-stands g c =
+    subst (λ (l : LogState). Tells (StandsStill c.args.self.now l) (g.S.Site.told c.args.site.now) (g.S.Site.told c.sync_parts.new.site)) (sym (returns-clause-log g c))
+    (told_still c.args.self.now c.self.inside.unsynced (Ok c.in_ok-sync_parts.field-0) _ _ c.in_ok-sync_parts.ensures.told)

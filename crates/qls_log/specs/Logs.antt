@@ -1,0 +1,86 @@
+-- What a log knows: its files of this opening, and where its next batch goes.
+use Rattle.std.specs.Prelude.{◌≡◌, ℕ, ◌+◌, ◌-◌, ◌*◌, ◌%◌, ◌^◌, ◌<◌, ◌≤◌, Bool, true, false, List, [], ◌∷◌, map, length}
+use Rattle.std.specs.List.{AllByRecursion}
+use Rattle.qls_model.specs.Limits.{is_partition, is_kib}
+use Rattle.qls_filehdr.specs.declared.FileHeader.{FileHeader}
+use Rattle.qls_filehdr.specs.Limits.{is_name, is_counter, is_first_place}
+use Rattle.qls_blocks.specs.declared.plan.FreshFile.{FreshFile}
+use Rattle.qls_pool.specs.Files.{HeadedFile}
+use Rattle.qls_log.specs.declared.opening.Opening.{Opening}
+
+-- Files taken in this opening, oldest first, and the number of the newest file. So many bytes of the newest file's data area are
+-- written; the rid is the one in force behind the last batch. The last batch lies pending in the files of these ids
+pub record LogState : Type 0 where
+  pub opening : Opening
+  pub files : List HeadedFile
+  pub newest : ℕ
+  pub used : ℕ
+  pub rid : ℕ
+  pub unsynced : List ℕ
+  pub ended : Bool
+
+abbrev pub capacity_in : Opening → ℕ
+capacity_in o = o.home.kib * 1024
+
+-- ---- headers
+
+-- the header of a file with this serial and number, as a batch plans it
+abbrev pub header_for : Opening → ℕ → ℕ → FreshFile → FileHeader
+header_for o serial number fresh = record {
+  serial = serial;
+  rid = fresh.rid;
+  part = o.home.part;
+  kib = o.home.kib;
+  first = fresh.first;
+  number = number;
+  epoch = o.epoch;
+  kind = o.kind;
+  name = o.name;
+}
+
+-- the home, the epoch and the name are within the limits
+pub record IsLegalOpening (o : Opening) : Type 0 where
+  pub part : is_partition o.home.part ≡ true
+  pub kib : is_kib o.home.kib ≡ true
+  pub epoch : is_counter o.epoch ≡ true
+  pub name : is_name o.kind o.name ≡ true
+
+-- a file of so many KiB may have these values in its header
+pub record FitsFile (kib : ℕ) (fresh : FreshFile) : Type 0 where
+  pub rid : fresh.rid < 2 ^ 62
+  pub first : is_first_place kib fresh.first ≡ true
+
+-- each file has the header that was planned for it, and the numbers go on behind the newest
+abbrev pub AreHeaded : Opening → ℕ → List FreshFile → List HeadedFile → Type 0
+AreHeaded o newest [] [] = Unit {0}
+AreHeaded o newest [] (h ∷ hs) = ⊥
+AreHeaded o newest (f ∷ fs) [] = ⊥
+AreHeaded o newest (f ∷ fs) (h ∷ hs) = (h.header ≡ header_for o h.header.serial (newest + 1) f) × AreHeaded o (newest + 1) fs hs
+
+-- ---- what holds of every log that isn't ended
+
+-- the numbers count on from this one, up to the newest
+abbrev pub NumberedFrom : ℕ → List HeadedFile → ℕ → Type 0
+NumberedFrom n [] newest = n ≡ newest + 1
+NumberedFrom n (h ∷ hs) newest = (h.header.number ≡ n) × NumberedFrom (n + 1) hs newest
+
+-- the header is one of this opening
+abbrev pub IsOfOpening : Opening → HeadedFile → Type 0
+IsOfOpening o h = h.header ≡ header_for o h.header.serial h.header.number (record { first = h.header.first; rid = h.header.rid })
+
+pub record IsSound (l : LogState) : Type 0 where
+  pub opening : IsLegalOpening l.opening
+  pub own : AllByRecursion (IsOfOpening l.opening) l.files
+  pub some : 0 < length l.files
+  pub few : length l.files ≤ l.newest
+  pub numbers : NumberedFrom (l.newest + 1 - length l.files) l.files l.newest
+  pub newest : l.newest < 2 ^ 62
+  pub used : (l.used % 4096 ≡ 0) × (l.used ≤ capacity_in l.opening)
+  pub rid : l.rid < 2 ^ 62
+
+-- the ids of files
+abbrev pub ids : List HeadedFile → List ℕ
+ids hs = map (λ h. h.id) hs
+
+abbrev pub serials : List HeadedFile → List ℕ
+serials hs = map (λ h. h.header.serial) hs

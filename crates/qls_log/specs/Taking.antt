@@ -1,0 +1,38 @@
+-- What taking files does to the site, to the pool and to the serials.
+use Rattle.std.specs.Prelude.{◌≡◌, ◌⊎◌, ℕ, ◌+◌, ◌-◌, ◌^◌, ◌<◌, List, [], ◌∷◌, length, Option, Some, None, Result, Ok}
+use Rattle.qls_model.specs.declared.machine.PoolId.{PoolId}
+use Rattle.qls_site.specs.declared.site.SiteError.{SiteError}
+use Rattle.qls_site.specs.declared.serials.DrawError.{DrawError}
+use Rattle.qls_site.specs.Content.{Content, Acts, Draws}
+use Rattle.qls_pool.specs.Pools.{PoolState, HandsOut, IsSpent, least_id}
+use Rattle.qls_pool.specs.Files.{HeadedFile}
+use Rattle.qls_pool.specs.Taking.{Obtains, Heads, put_in_use}
+use Rattle.qls_log.specs.declared.opening.Opening.{Opening}
+
+-- the pool hands the file out, its header is written and synced, and it is put into use
+pub record TakesFile (home : PoolId) (pool left : PoolState) (h : HeadedFile) (old new : Content) : Type 0 where
+  pub blank : Content
+  pub headed : Content
+  pub hands : HandsOut home pool left h.id
+  pub obtains : Obtains home pool.greatest (least_id home pool.files) old blank
+  pub heads : Heads {X = Unit {0}} h.id h.header (Ok (tt {0})) blank headed
+  pub links : Acts (put_in_use h.id) headed new
+
+-- one after another
+abbrev pub TakesFiles : PoolId → PoolState → PoolState → List HeadedFile → Content → Content → Type 0
+TakesFiles home pool left [] old new = (left ≡ pool) × (new ≡ old)
+TakesFiles home pool left (h ∷ hs) old new = (between : PoolState) × (mid : Content) × TakesFile home pool between h old mid × TakesFiles home between left hs mid new
+
+-- the numbers drawn are the serials of the files, in order; the serials may stop telling
+abbrev pub DrawsOne : HeadedFile → Option (List ℕ) → Option (List ℕ) → Type 0
+DrawsOne h old new = Draws {E = DrawError} old new (Ok h.header.serial)
+
+abbrev pub DrawsEach : List HeadedFile → Option (List ℕ) → Option (List ℕ) → Type 0
+DrawsEach [] old new = new ≡ old
+DrawsEach (h ∷ hs) old new = (mid : Option (List ℕ)) × DrawsOne h old mid × DrawsEach hs mid new
+
+-- fewer than n files were taken, and the next one can't be had: its number would be 2 ^ 62, or its id
+pub record MeetsEnd (o : Opening) (newest n : ℕ) (pool : PoolState) : Type 0 where
+  pub taken : ℕ
+  pub fewer : taken < n
+  pub last : (newest + taken ≡ 2 ^ 62 - 1) ⊎ IsSpent o.home pool

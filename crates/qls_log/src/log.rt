@@ -1,0 +1,217 @@
+// The log of one journal.
+ghost use Rattle.std.specs.Prelude.{◌≡◌, ◌⊎◌, ◌<◌, ◌^◌, [], ℕ, List, false, is_err, IfOk, IfSome, Err, length, map};
+ghost use Rattle.qls_site.specs.Content.{Tells};
+ghost use Rattle.qls_site.specs.Disk.{IsQuiet};
+ghost use Rattle.qls_pool.specs.Pools.{PoolState, IsSpent};
+ghost use Rattle.qls_pool.specs.Files.{HeadedFile, IsPoolOf, IsWholePool, OnDisk, Carries};
+ghost use Rattle.qls_pool.specs.Discipline.{Orderly};
+ghost use Rattle.qls_blocks.specs.Batching.{laid_from};
+ghost use Rattle.qls_blocks.specs.Plans.{plan_of};
+ghost use Rattle.qls_log.specs.Logs.{IsLegalOpening, capacity_in};
+ghost use Rattle.qls_log.specs.Faults.{LogCauses, SiteCauses, Counts};
+ghost use Rattle.qls_log.specs.Taking.{TakesFiles, DrawsEach, MeetsEnd};
+ghost use Rattle.qls_log.specs.Spots.{spot_of};
+ghost use Rattle.qls_log.specs.Standing.{LogThere, StandsWith, IsUnmarkedBehind, files_on};
+ghost use Rattle.qls_log.specs.Appending.{IsNew, FollowRids, HasAppended, TakesAndWrites, ReadsNone, StandsBehind, StandsStill, LeavesOthers, IsQuietBut, SyncsAll, SeesTheSame, ReadsInImages};
+
+use crate::fault::LogError;
+use crate::opening::Opening;
+use crate::spot::{Spot, spots};
+use crate::take::take_files;
+use crate::write::{files_from, used_behind, write_batch};
+use qls_blocks::{Batch, FreshFile, sync_parts};
+use qls_filehdr::JournalKind;
+use qls_model::{Name, PoolId, Seq};
+use qls_pool::{Linked, Pool};
+use qls_site::{Serials, Site};
+use std::alloc::Global;
+use std::marker::Model;
+
+/// A journal as a list of records. Each batch starts at a block's end, behind the one before.
+#[derive(Drop)]
+pub struct Log {
+    opening: Opening,
+    /// The files taken in this opening, oldest first.
+    files: Vec<Linked>,
+    /// The number of the newest file.
+    newest: u64,
+    /// How many bytes of the newest file's data area are written.
+    used: u64,
+    /// The record id in force behind the last batch.
+    rid: u64,
+    /// The ids of the files in which the last batch is pending.
+    unsynced: Seq<u64>,
+    ended: bool,
+}
+
+impl Model for Log {
+    ghost use Rattle.std.specs.Prelude.{◌≡◌, false};
+    ghost use Rattle.qls_log.specs.Logs.{LogState, IsSound};
+
+    ghost Value = { LogState };
+
+    ghost view = { λ l. record { opening = l.opening; files = l.files.items; newest = l.newest; used = l.used; rid = l.rid; unsynced = l.unsynced; ended = l.ended } };
+
+    ghost invariant = { λ l. l.ended ≡ false → IsSound (record { opening = l.opening; files = l.files.items; newest = l.newest; used = l.used; rid = l.rid; unsynced = l.unsynced; ended = l.ended }) };
+}
+
+impl Log {
+    /// Makes a new journal of this kind and name, whose files belong to the pool `home`: it takes one file, with number
+    /// and epoch 1, and no record stands in it. A queue's name is within its limits, and the list's is empty.
+    ///
+    /// Where told, the site has no file in use of that kind and name, and the pool is the site's, with no file out.
+    /// After an error the site and the pool stand as the calls up to it left them.
+    pub fn create<S: Site, N: Serials>(
+        alloc: Global,
+        site: &mut S,
+        pool: &mut Pool,
+        serials: &mut N,
+        kind: JournalKind,
+        name: Name,
+        home: PoolId,
+    ) -> Result<Log, LogError>
+        requires legal { IsLegalOpening (record { kind = kind; name = name; home = home; epoch = 1 }) }
+        requires new { IfSome (S.told site.old) (OnDisk (λ d. files_on (record { kind = kind; name = name; home = home; epoch = 1 }) d ≡ [])) }
+        requires pool { IfSome (S.told site.old) (OnDisk (IsWholePool pool.old)) }
+        ensures new { IfOk result (IsNew (record { kind = kind; name = name; home = home; epoch = 1 })) }
+        ensures told { IfOk result (λ log. Tells (TakesFiles home pool.old pool.new log.files) (S.told site.old) (S.told site.new)) }
+        ensures drawn { IfOk result (λ log. DrawsEach log.files (N.drawn serials.old) (N.drawn serials.new)) }
+        ensures there { IfOk result (λ log. IfSome (S.told site.new) (OnDisk (LogThere log))) }
+        ensures pool { IfOk result (λ _. IfSome (S.told site.new) (OnDisk (IsWholePool pool.new))) }
+        ensures reading { IfOk result (λ log. Tells (ReadsNone log) (S.told site.old) (S.told site.new)) }
+        ensures stands { IfOk result (λ log. IfSome (S.told site.new) (OnDisk (StandsWith log []))) }
+        ensures others { IfOk result (λ log. Tells (LeavesOthers log.files) (S.told site.old) (S.told site.new)) }
+        ensures spent { result ≡ Err LogError.Spent → IsSpent home pool.new }
+        ensures at_end { IsSpent home pool.old → (result ≡ Err LogError.Spent) ⊎ (result ≡ Err LogError.Memory) }
+        ensures cause { LogCauses (S.faults site.old) (S.faults site.new) (N.faults serials.old) (N.faults serials.new) result }
+        ensures syncs { Counts (S.told site.old) result 1 (S.syncs site.old) (S.syncs site.new) }
+        ensures reads { S.reads site.new ≡ S.reads site.old }
+        ensures orderly { Orderly (IsPoolOf pool.old []) result (S.told site.old) (S.told site.new) }
+    {
+        let opening = Opening {
+            kind,
+            name,
+            home,
+            epoch: 1,
+        };
+        let fresh = [FreshFile {
+            first: 4096,
+            rid: 0,
+        }];
+        let files = take_files(alloc, site, pool, serials, &opening, 0, &fresh)?;
+        Ok(Log {
+            opening,
+            files,
+            newest: 1,
+            used: 0,
+            rid: 0,
+            unsynced: Seq::new(alloc),
+            ended: false,
+        })
+    }
+
+    /// Appends a batch: all files that it needs are taken first, and then each touched file gets one write, in file
+    /// order. It answers where each record lies, fillers left out. It is pending until the next [`Log::flush`].
+    ///
+    /// The batch has a record; its rids follow from the log's and are below 2^62; every earlier batch is flushed; the log
+    /// isn't ended. Where told, the site has the journal as the log's last call left it, and the pool is the site's, with
+    /// no file out. After an error the log is ended, and the site and the pool stand as the calls up to it left them.
+    pub fn append<S: Site, N: Serials>(
+        &mut self,
+        site: &mut S,
+        pool: &mut Pool,
+        serials: &mut N,
+        batch: &Batch,
+    ) -> Result<Seq<Spot>, LogError>
+        requires unended { self.old.ended ≡ false }
+        requires some { 0 < length batch.now }
+        requires rids { FollowRids self.old.rid batch.now }
+        requires flushed { self.old.unsynced ≡ [] }
+        requires there { IfSome (S.told site.old) (OnDisk (LogThere self.old)) }
+        requires pool { IfSome (S.told site.old) (OnDisk (IsPoolOf pool.old [])) }
+        ensures ended { self.new.ended ≡ is_err result }
+        ensures appended { IfOk result (λ _. (taken : List HeadedFile) × HasAppended batch.now self.old self.new taken × DrawsEach taken (N.drawn serials.old) (N.drawn serials.new) × Tells (TakesAndWrites batch.now self.old self.new pool.old pool.new taken) (S.told site.old) (S.told site.new)) }
+        ensures spots { IfOk result (λ spots. spots ≡ map (spot_of (capacity_in self.old.opening) self.old.newest) (laid_from self.old.used batch.now)) }
+        ensures there { IfOk result (λ _. IfSome (S.told site.new) (OnDisk (LogThere self.new))) }
+        ensures pool { IfOk result (λ _. IfSome (S.told site.new) (OnDisk (IsPoolOf pool.new []))) }
+        ensures stands { IfOk result (λ _. Tells (StandsBehind batch.now self.old self.new) (S.told site.old) (S.told site.new)) }
+        ensures others { IfOk result (λ _. Tells (LeavesOthers self.new.files) (S.told site.old) (S.told site.new)) }
+        ensures spent { result ≡ Err LogError.Spent → MeetsEnd self.old.opening self.old.newest (length (plan_of batch.now self.old.used (capacity_in self.old.opening) self.old.rid).fresh) pool.new }
+        ensures at_end { 0 < length (plan_of batch.now self.old.used (capacity_in self.old.opening) self.old.rid).fresh → MeetsEnd self.old.opening self.old.newest 1 pool.old → (result ≡ Err LogError.Spent) ⊎ (result ≡ Err LogError.Memory) }
+        ensures cause { LogCauses (S.faults site.old) (S.faults site.new) (N.faults serials.old) (N.faults serials.new) result }
+        ensures syncs { Counts (S.told site.old) result (length (plan_of batch.now self.old.used (capacity_in self.old.opening) self.old.rid).fresh) (S.syncs site.old) (S.syncs site.new) }
+        ensures reads { S.reads site.new ≡ S.reads site.old }
+    {
+        self.ended = true;
+        let opening = self.opening;
+        let capacity = opening.capacity();
+        let (used, newest) = (self.used, self.newest);
+        let alloc = *self.files.allocator();
+        let plan = batch.plan(used, capacity, self.rid)?;
+        let spots = spots(alloc, batch, used, capacity, newest)?;
+        let fresh = plan.fresh.as_slice();
+        let mut taken = take_files(alloc, site, pool, serials, &opening, newest, fresh)?;
+        let before = self.files.len();
+        self.files.append(&mut taken)?;
+        let over = files_from(&self.files, before - 1);
+        let written = write_batch(alloc, site, over, batch, &plan, used, capacity)?;
+        self.newest = newest + fresh.len() as u64;
+        self.used = used_behind(used, plan.length, capacity, fresh.len() as u64);
+        self.rid = batch.last_rid();
+        self.unsynced = written;
+        self.ended = false;
+        Ok(spots)
+    }
+
+    /// Syncs each file in which the last batch is pending, in file order: one sync each.
+    ///
+    /// The log isn't ended. Where told, the site has the journal as the log's last call left it. After an error the log is
+    /// ended; the files before the one whose sync failed are synced.
+    pub fn flush<S: Site>(&mut self, site: &mut S) -> Result<(), LogError>
+        requires unended { self.old.ended ≡ false }
+        requires there { IfSome (S.told site.old) (OnDisk (LogThere self.old)) }
+        ensures ended { self.new.ended ≡ is_err result }
+        ensures log { IfOk result (λ _. self.new ≡ record self.old { unsynced = [] }) }
+        ensures told { Tells (SyncsAll self.old.unsynced result) (S.told site.old) (S.told site.new) }
+        ensures there { IfOk result (λ _. IfSome (S.told site.new) (OnDisk (LogThere self.new))) }
+        ensures reading { Tells SeesTheSame (S.told site.old) (S.told site.new) }
+        ensures stands { IfOk result (λ _. Tells (StandsStill self.old self.new) (S.told site.old) (S.told site.new)) }
+        ensures behind { IfOk result (λ _. Carries (IsUnmarkedBehind self.old) (IsUnmarkedBehind self.new) (S.told site.old) (S.told site.new)) }
+        ensures pool { (pool : PoolState) (out : List ℕ) → Carries (IsPoolOf pool out) (IsPoolOf pool out) (S.told site.old) (S.told site.new) }
+        ensures quiet { IfOk result (λ _. Carries (IsQuietBut self.old.unsynced) IsQuiet (S.told site.old) (S.told site.new)) }
+        ensures images { IfOk result (λ _. Carries (IsQuietBut self.old.unsynced) (ReadsInImages self.new) (S.told site.old) (S.told site.new)) }
+        ensures cause { SiteCauses (S.faults site.old) (S.faults site.new) result }
+        ensures syncs { Counts (S.told site.old) result (length self.old.unsynced) (S.syncs site.old) (S.syncs site.new) }
+        ensures reads { S.reads site.new ≡ S.reads site.old }
+        ensures orderly { Orderly (λ _. Unit {0}) result (S.told site.old) (S.told site.new) }
+    {
+        self.ended = true;
+        sync_parts(site, &self.unsynced)?;
+        self.unsynced = Seq::new(*self.files.allocator());
+        self.ended = false;
+        Ok(())
+    }
+
+    /// The record id in force behind the last batch: that of the last enqueue, 0 where there is none.
+    pub fn rid(&self) -> u64
+        requires unended { self.now.ended ≡ false }
+        ensures exact { result ≡ self.now.rid }
+    {
+        self.rid
+    }
+
+    /// The number of the journal's newest file.
+    pub fn newest(&self) -> u64
+        requires unended { self.now.ended ≡ false }
+        ensures exact { result ≡ self.now.newest }
+    {
+        self.newest
+    }
+
+    /// Whether the log is ended: a call on it that may write answered an error. No other call may follow then.
+    pub fn is_ended(&self) -> bool
+        ensures exact { result ≡ self.now.ended }
+    {
+        self.ended
+    }
+}
