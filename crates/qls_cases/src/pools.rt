@@ -1,4 +1,6 @@
 // Runs on a site with empty files: which file a queue takes, and on which sites no run begins.
+ghost use Rattle.std.specs.Prelude.{◌≡◌, IfOk};
+
 use crate::outside::{image_before_end, run_on, words_of};
 use crate::stored::{check_refused, file_with_a_message};
 use qls_memsite::{MemSerials, MemSite, MemSource};
@@ -6,6 +8,7 @@ use qls_model::{Bytes, Seq};
 use qls_site::{ImageFile, Place, Serials};
 use qls_top::run;
 use std::alloc::Global;
+use std::process::Abort;
 use std::test::Fail;
 
 // An empty file with so many bytes, all the same.
@@ -16,12 +19,27 @@ fn empty_file(
     kib: u32,
     size: usize,
     byte: u8,
-) -> Result<ImageFile, Fail> {
+) -> Result<ImageFile, Fail>
+    ensures id { IfOk result (λ file. file.id ≡ id) }
+{
     Ok(ImageFile {
         id,
         place: Place::Empty { part, kib },
         bytes: Bytes::from_vec(Vec::from_elem(alloc, byte, size)?),
     })
+}
+
+// So many bytes are those of queue a's file with message 1, and all others are as they were.
+fn check_taken(rt: &impl Abort, alloc: Global, bytes: &[u8], written: usize) -> Result<(), Fail> {
+    let wanted = file_with_a_message(alloc)?;
+    for (at, byte) in bytes.iter().enumerate() {
+        if at < written {
+            assert_eq!(rt; wanted.as_slice().get(at), Some(byte), "{at}");
+        } else {
+            assert_eq!(rt; *byte, 0xa3, "{at}");
+        }
+    }
+    Ok(())
 }
 
 // The data areas have bytes of an older use, which the new serial doesn't stand in.
@@ -44,13 +62,7 @@ fn a_queue_takes_the_least_file_of_its_pool(rt: HostRuntime) -> Result<(), Fail>
             return Err(Fail::from("not three files"));
         };
         assert_eq!(rt; (three.id, three.place), (3, Place::InUse));
-        let wanted = file_with_a_message(alloc)?;
-        assert!(rt; three.bytes.as_slice()[..written] == wanted.as_slice()[..written]);
-        assert!(rt;
-            three.bytes.as_slice()[written..]
-                .iter()
-                .all(|byte| *byte == 0xa3)
-        );
+        check_taken(&rt, alloc, three.bytes.as_slice(), written)?;
         assert_eq!(rt;
             (four.id, four.place),
             (4, Place::Empty { part: 2, kib: 4 })
