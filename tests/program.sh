@@ -121,6 +121,45 @@ is 'the file' "$(bytes_of "store/inuse/$FIRST")" "$(whole_file "$serial")"
 is 'what is passed over' "$(cd store && find . -name '*.new' | sort)" "./empty/2/8/$UNFINISHED
 ./inuse/$UNFINISHED"
 
+scenario='pools with empty files'
+THIRD=0000000000000000003.qls
+FIFTH=0000000000000000005.qls
+mkdir -p pools/empty/1/4 pools/empty/2/4
+printf '%08192d' 3 >"pools/empty/1/4/$THIRD"
+printf '%08192d' 5 >"pools/empty/1/4/$FIFTH"
+printf '%08192d' 4 >"pools/empty/2/4/0000000000000000004.qls"
+fifth=$(sha256sum <"pools/empty/1/4/$FIFTH")
+printf 'queue a\n' >one.txt
+run pools run 1 4 <one.txt
+is status "$status" 0
+is replies "$out" 'ok'
+is 'the files' "$(cd pools && find . -type f | sort)" "./empty/1/4/$FIFTH
+./empty/2/4/0000000000000000004.qls
+./inuse/$THIRD"
+serial=$(bytes_of "pools/inuse/$THIRD" | cut -c17-32)
+is 'the header' "$(bytes_of "pools/inuse/$THIRD" | cut -c1-8192)" "$(header "$serial")"
+is 'what lies behind it' "$(tail -c 4096 "pools/inuse/$THIRD")" "$(printf '%08192d' 3 | tail -c 4096)"
+is 'the file that stays' "$(sha256sum <"pools/empty/1/4/$FIFTH")" "$fifth"
+
+scenario='no file and no id'
+mkdir -p last/empty/2/4
+truncate -s 8192 last/empty/2/4/4611686018427387903.qls
+before=$(tree last/empty)
+printf 'put a 01\nqueue a\nqueue b\n' >three.txt
+run last run 1 4 <three.txt
+is status "$status" 9
+is replies "$out" 'refused queue'
+is 'standard error' "$err" 'counter spent'
+is 'what lies there' "$(tree last/empty)" "$before"
+
+scenario='an empty file of another size'
+mkdir -p broken/empty/1/4
+truncate -s 8193 "broken/empty/1/4/$FIRST"
+run broken run 1 4 <script.txt
+is status "$status" 10
+is replies "$out" ''
+is 'standard error' "$err" 'store not empty'
+
 scenario='the empty script'
 run none run 1 4 </dev/null
 is status "$status" 0

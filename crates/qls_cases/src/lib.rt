@@ -6,6 +6,8 @@ mod faults;
 #[cfg(test)]
 mod outside;
 #[cfg(test)]
+mod pools;
+#[cfg(test)]
 mod scripts;
 #[cfg(test)]
 mod stored;

@@ -32,7 +32,7 @@ fn add_padded(
 }
 
 // The whole file of queue a with message 1.
-fn file_with_a_message(alloc: Global) -> Result<Bytes, Fail> {
+pub(crate) fn file_with_a_message(alloc: Global) -> Result<Bytes, Fail> {
     let mut bytes = Bytes::new(alloc, b"")?;
     add_padded(alloc, &mut bytes, HEADER, 0, 4_031)?;
     add_padded(alloc, &mut bytes, MESSAGE, 0xff, 62)?;
@@ -42,8 +42,8 @@ fn file_with_a_message(alloc: Global) -> Result<Bytes, Fail> {
     Ok(bytes)
 }
 
-// A run on a site with this file answers that there is one, and leaves it.
-fn check_refused(rt: &impl Abort, alloc: Global, file: ImageFile) -> Result<(), Fail> {
+// No run begins on a site with this file, and it stays.
+pub(crate) fn check_refused(rt: &impl Abort, alloc: Global, file: ImageFile) -> Result<(), Fail> {
     let (id, place, bytes) = (file.id, file.place, file.bytes.copy()?);
     let mut files = Seq::new(alloc);
     files.push(file)?;
@@ -76,20 +76,4 @@ fn a_put_is_stored_before_it_is_answered(rt: HostRuntime) -> Result<(), Fail> {
         assert!(rt; file.bytes.as_slice() == wanted.as_slice());
     }
     check_refused(&rt, alloc, file_before_end(&rt, alloc, &site, 0)?)
-}
-
-#[test]
-fn an_empty_file_of_a_pool_is_a_file(rt: HostRuntime) -> Result<(), Fail> {
-    let alloc = rt.alloc();
-    let bytes = Bytes::from_vec(Vec::from_elem(alloc, 0, 8_192)?);
-    let place = Place::Empty { part: 2, kib: 4 };
-    check_refused(
-        &rt,
-        alloc,
-        ImageFile {
-            id: 5,
-            place,
-            bytes,
-        },
-    )
 }

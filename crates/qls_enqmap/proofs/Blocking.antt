@@ -23,6 +23,16 @@ more_by : (v : Option Held) (hs gs : List Held) → length hs ≤ length gs → 
 more_by None hs gs l = l
 more_by (Some h) hs gs l = omega arith
 
+pub before_past : (es : Slots) (n : ℕ) → length es ≤ n → before es n ≡ length (held_in es)
+before_past [] zero l = refl
+before_past [] (suc n) l = refl
+before_past (e ∷ es) zero l = absurd (omega arith)
+before_past (e ∷ es) (suc n) l = past_by e.1 (held_in (take n es)) (held_in es) (before_past es n (omega arith))
+  where
+    past_by : (v : Option Held) (hs gs : List Held) → length hs ≡ length gs → length (cons_option v hs) ≡ length (cons_option v gs)
+    past_by None hs gs e = e
+    past_by (Some h) hs gs e = ap suc e
+
 pub before_mono : (es : Slots) (n m : ℕ) → n ≤ m → before es n ≤ before es m
 before_mono es zero m l = omega arith
 before_mono [] (suc n) zero l = absurd (omega arith)
@@ -181,6 +191,32 @@ counted_all w n counts old es us i k l m a f =
       covers = omega arith;
     }
 
+-- behind all slots no record is counted
+pub none_past : (w were b : ℕ) (counts : List ℕ) (es : Slots) → IsCounted w counts es → length es ≡ were → were ≤ b * w → get_or counts b 0 ≡ 0
+none_past w were b counts es i l m =
+    let a = before_past es (b * w) (omega arith) in
+    let z = before_past es (b * w + w) (omega arith) in
+    omega (arith, i.each b, a, z)
+
+block_past : (w were b : ℕ) → 0 < w → were / w + 1 ≤ b → were ≤ b * w
+block_past w were b l m = let h : (were / w + 1) * w ≤ b * w = mul-le-mul_right w m in let e : (were / w + 1) * w ≡ (were / w) * w + w = grind arith in omega (arith, block_to were w l)
+
+filled_or_past : (c : Bool) (w n were bound b : ℕ) (counts old : List ℕ) (es : Slots) → c ≡ nat_lt b bound → 0 < w → IsCounted w old es → length es ≡ were → n ≤ were
+    → bound ≡ min (length old) (were / w + 1) → b < length old → ((b : ℕ) → b < bound → get_or counts b 0 ≡ min w (n - b * w)) → ((b : ℕ) → bound ≤ b → get_or counts b 0 ≡ get_or old b 0)
+    → get_or counts b 0 ≡ min w (n - b * w)
+filled_or_past true w n were bound b counts old es e l i m k d r f g = f b (grind arith)
+filled_or_past false w n were bound b counts old es e l i m k d r f g =
+    let h : bound ≤ b = grind arith in
+    let p = block_past w were b l (omega arith) in
+    let z = none_past w were b old es i m p in
+    omega (arith, g b h)
+
+-- the blocks of the slots that there were are filled, and the others are as they were
+pub filled_all : (w n were bound b : ℕ) (counts old : List ℕ) (es : Slots) → 0 < w → IsCounted w old es → length es ≡ were → n ≤ were
+    → bound ≡ min (length old) (were / w + 1) → b < length old → ((b : ℕ) → b < bound → get_or counts b 0 ≡ min w (n - b * w)) → ((b : ℕ) → bound ≤ b → get_or counts b 0 ≡ get_or old b 0)
+    → get_or counts b 0 ≡ min w (n - b * w)
+filled_all w n were bound b counts old es = filled_or_past (nat_lt b bound) w n were bound b counts old es refl
+
 pub any_default : (xs : List ℕ) (i d e : ℕ) → i < length xs → get_or xs i d ≡ get_or xs i e
 any_default [] i d e l = absurd (omega arith)
 any_default (x ∷ xs) zero d e l = refl
@@ -225,6 +261,7 @@ counts_same blocks es us a b l = record {
   small = counted_same 64 blocks.small.items es us a.small b l;
   middle = counted_same 4096 blocks.middle.items es us a.middle b l;
   large = counted_same 262144 blocks.large.items es us a.large b l;
+  huge = counted_same 16777216 blocks.huge.items es us a.huge b l;
 }
 
 -- ---- the slot that gains a record, or loses it

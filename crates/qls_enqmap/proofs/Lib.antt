@@ -4,3 +4,4 @@ pub mod Ends
 pub mod Kept
 pub mod Counted
 pub mod Blocking
+pub mod Together

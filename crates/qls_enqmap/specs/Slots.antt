@@ -103,17 +103,19 @@ pub record IsCounted (width : ℕ) (counts : List ℕ) (es : Slots) : Type 0 whe
   pub each : (b : ℕ) → before es (b * width + width) ≡ before es (b * width) + slice_index_or counts b 0
   pub covers : length es ≤ length counts * width
 
--- counts of small, middle and large blocks
+-- counts of small, middle, large and huge blocks
 pub record AreCounted (blocks : Blocks) (es : Slots) : Type 0 where
   pub small : IsCounted 64 blocks.small.items es
   pub middle : IsCounted 4096 blocks.middle.items es
   pub large : IsCounted 262144 blocks.large.items es
+  pub huge : IsCounted 16777216 blocks.huge.items es
 
 -- there is a block for the slot at this place
 pub record HasRoom (blocks : Blocks) (place : ℕ) : Type 0 where
   pub small : place < length blocks.small.items * 64
   pub middle : place < length blocks.middle.items * 4096
   pub large : place < length blocks.large.items * 262144
+  pub huge : place < length blocks.huge.items * 16777216
 
 -- what holds of the slots, the counts of blocks, the number of records, the place of the first, and whether the files are known to rise
 pub record IsKept (es : Slots) (blocks : Blocks) (count : ℕ) (start : ℕ) (rising : Bool) : Type 0 where

@@ -12,12 +12,16 @@ const MIDDLE: usize = 4_096;
 
 const LARGE: usize = 262_144;
 
-// The counts of blocks of 64, of 4,096 and of 262,144 slots.
+const HUGE: usize = 16_777_216;
+
+// The counts of blocks of 64, of 4,096, of 262,144 and of 16,777,216 slots. A block has 64 of the next smaller ones, and
+// there are at most 144 huge ones, since the table of slots ends at 9 * 2^28.
 #[derive(Drop)]
 pub struct Blocks {
     pub(crate) small: Vec<usize>,
     pub(crate) middle: Vec<usize>,
     pub(crate) large: Vec<usize>,
+    pub(crate) huge: Vec<usize>,
 }
 
 // Counts of no slot.
@@ -28,6 +32,7 @@ pub(crate) fn no_blocks(alloc: Global) -> Blocks
         small: Vec::new(alloc),
         middle: Vec::new(alloc),
         large: Vec::new(alloc),
+        huge: Vec::new(alloc),
     }
 }
 
@@ -39,6 +44,7 @@ pub(crate) fn make_room(blocks: &mut Blocks, place: usize) -> Result<(), NoMemor
     room_for(&mut blocks.small, SMALL, place)?;
     room_for(&mut blocks.middle, MIDDLE, place)?;
     room_for(&mut blocks.large, LARGE, place)?;
+    room_for(&mut blocks.huge, HUGE, place)?;
     Ok(())
 }
 
@@ -60,6 +66,7 @@ pub(crate) fn count_more(blocks: &mut Blocks, place: usize)
     one_more(&mut blocks.small, SMALL, place);
     one_more(&mut blocks.middle, MIDDLE, place);
     one_more(&mut blocks.large, LARGE, place);
+    one_more(&mut blocks.huge, HUGE, place);
 }
 
 fn one_more(counts: &mut Vec<usize>, width: usize, place: usize)
@@ -79,6 +86,7 @@ pub(crate) fn count_less(blocks: &mut Blocks, place: usize)
     one_less(&mut blocks.small, SMALL, place);
     one_less(&mut blocks.middle, MIDDLE, place);
     one_less(&mut blocks.large, LARGE, place);
+    one_less(&mut blocks.huge, HUGE, place);
 }
 
 fn one_less(counts: &mut Vec<usize>, width: usize, place: usize)
@@ -91,20 +99,24 @@ fn one_less(counts: &mut Vec<usize>, width: usize, place: usize)
     }
 }
 
-// Counts so many slots that each have a record.
-pub(crate) fn count_all(blocks: &mut Blocks, slots: usize)
-    ensures counted { (es us : Slots) → AreCounted blocks.old es → length us ≤ length es → length us ≡ slots → all_of (occupied us) ≡ true → AreCounted blocks.new us }
+// Counts so many slots that each have a record, where there were so many before. Blocks behind those have no record, and
+// aren't gone over: a table that was long once costs no more than a short one.
+pub(crate) fn count_all(blocks: &mut Blocks, slots: usize, were: usize)
+    ensures counted { (es us : Slots) → AreCounted blocks.old es → length es ≡ were → length us ≤ length es → length us ≡ slots → all_of (occupied us) ≡ true → AreCounted blocks.new us }
 {
-    fill(&mut blocks.small, SMALL, slots);
-    fill(&mut blocks.middle, MIDDLE, slots);
-    fill(&mut blocks.large, LARGE, slots);
+    fill(&mut blocks.small, SMALL, slots, were);
+    fill(&mut blocks.middle, MIDDLE, slots, were);
+    fill(&mut blocks.large, LARGE, slots, were);
+    fill(&mut blocks.huge, HUGE, slots, were);
 }
 
-fn fill(counts: &mut Vec<usize>, width: usize, slots: usize)
-    ensures counted { (es us : Slots) → IsCounted width counts.old.items es → length us ≤ length es → length us ≡ slots → all_of (occupied us) ≡ true → IsCounted width counts.new.items us }
+fn fill(counts: &mut Vec<usize>, width: usize, slots: usize, were: usize)
+    requires wide { 0 < width }
+    ensures counted { (es us : Slots) → IsCounted width counts.old.items es → length es ≡ were → length us ≤ length es → length us ≡ slots → all_of (occupied us) ≡ true → IsCounted width counts.new.items us }
 {
+    let blocks = counts.len().min((were / width).saturating_add(1));
     let mut left = slots;
-    for block in 0..counts.len() {
+    for block in 0..blocks {
         let filled = left.min(width);
         counts[block] = filled;
         left -= filled;
@@ -122,7 +134,12 @@ pub(crate) struct Passed {
 pub(crate) fn pass_blocks(blocks: &Blocks, records: usize) -> Passed
     ensures passed { (es : Slots) → AreCounted blocks.now es → length es < 2 ^ 63 → records < before es (length es) → before es result.place + result.left ≡ records }
 {
-    let large = pass(blocks.large.as_slice(), 0, records);
+    let huge = pass(blocks.huge.as_slice(), 0, records);
+    let large = pass(
+        blocks.large.as_slice(),
+        huge.block.saturating_mul(HUGE / LARGE),
+        huge.left,
+    );
     let middle = pass(
         blocks.middle.as_slice(),
         large.block.saturating_mul(LARGE / MIDDLE),

@@ -11,7 +11,8 @@ use std::marker::Model;
 /// The records that a queue holds. Clauses see a list by rising record id.
 ///
 /// A record that goes out leaves a hole, which is closed up in place once the holes are more than the records:
-/// so each call takes amortised constant time, and only `insert` takes memory.
+/// so each call takes amortised constant time, whatever the map held before, but for `first_file` where files fall
+/// along the ids. Only `insert` takes memory.
 #[derive(Drop)]
 pub struct EnqMap {
     slots: IndexMap<u64, Option<Held>>,
@@ -127,7 +128,7 @@ impl EnqMap {
         find(&self.slots, rid)
     }
 
-    /// The record at a place by rising id, counted from 0; None exactly where there is none.
+    /// The record at a place by rising id, counted from 0; None exactly where there is none. It takes at most 400 steps.
     pub fn at(&self, at: usize) -> Option<&Held>
         ensures there { option_copied result ≡ slice_get self.now at }
     {

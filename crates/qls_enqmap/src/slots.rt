@@ -1,9 +1,9 @@
 // Slots by rising record id; each has a record, or is a hole where one went out.
-ghost use Rattle.std.specs.Prelude.{◌≡◌, ℕ, None, IfSome, ◌+◌, ◌≤◌, ◌<◌, ◌^◌, Option, Some, true, not, [], ◌∷◌, ◌++◌, length, take, drop, min, option_copied, is_some, IfNone, IfOk, IfErr, if◌then◌else◌};
+ghost use Rattle.std.specs.Prelude.{◌≡◌, ℕ, None, IfSome, ◌+◌, ◌≤◌, ◌<◌, ◌^◌, Option, Some, true, not, [], ◌∷◌, ◌++◌, length, take, drop, min, slice_get, option_copied, is_some, IfNone, IfOk, IfErr, if◌then◌else◌};
 ghost use Rattle.std.specs.List.{filter};
 ghost use Rattle.qls_enqmap.specs.declared.Held.{Held};
 ghost use Rattle.qls_enqmap.specs.Records.{held_at, with_status, without};
-ghost use Rattle.qls_enqmap.specs.Slots.{before, held_in, occupied, Loses, IsSlotOf, AreCounted, none_of, first_of, last_of, all_of, last_file, slot_file, restatus, RisesFrom, RidsBelow, FilesRise};
+ghost use Rattle.qls_enqmap.specs.Slots.{before, held_in, occupied, Loses, IsSlotOf, AreCounted, none_of, first_of, last_of, all_of, last_file, slot_file, record_in, restatus, RisesFrom, RidsBelow, FilesRise};
 
 use crate::Held;
 use crate::blocks::{Blocks, count_all};
@@ -158,15 +158,37 @@ pub(crate) fn next_held(slots: &Slots, from: usize) -> usize
     at
 }
 
-// Closes up all holes.
+// Closes up all holes. It takes as many steps as there are slots; `retain` would go over the room of the whole table,
+// which stays long once many records were held.
 fn close_up(slots: &mut Slots)
     ensures closed { slots.new.entries ≡ filter (λ e. is_some e.1) slots.old.entries }
 {
-    slots.retain(
-        |_rid: &u64, slot: &mut Option<Held>| -> bool
-            ensures { (result ≡ is_some slot.old) × (slot.new ≡ slot.old) }
-        { slot.is_some() },
-    );
+    let records = move_together(slots);
+    slots.truncate(records);
+}
+
+// Moves the records in front of all holes, in their order, and answers how many they are.
+fn move_together(slots: &mut Slots) -> usize
+    ensures together { take result slots.new.entries ≡ filter (λ e. is_some e.1) slots.old.entries }
+{
+    let mut records = 0;
+    for at in 0..slots.len() {
+        if is_held(slots, at) {
+            slots.swap_indices(records, at);
+            records += 1;
+        }
+    }
+    records
+}
+
+// Whether the slot at a place has a record.
+fn is_held(slots: &Slots, at: usize) -> bool
+    ensures held { result ≡ is_some (record_in (slice_get slots.now.entries at)) }
+{
+    match slots.get_index(at) {
+        Some((_, slot)) => slot.is_some(),
+        None => false,
+    }
 }
 
 // Removes the holes behind the last record, closes up all holes if they are more than the records, and answers the
@@ -182,9 +204,10 @@ pub(crate) fn tidy(slots: &mut Slots, blocks: &mut Blocks, count: usize, start: 
     ensures counted { AreCounted blocks.old slots.old.entries → AreCounted blocks.new slots.new.entries }
 {
     trim_end(slots);
-    if slots.len() / 2 > count {
+    let were = slots.len();
+    if were / 2 > count {
         close_up(slots);
-        count_all(blocks, slots.len());
+        count_all(blocks, slots.len(), were);
         return 0;
     }
     next_held(slots, start.min(slots.len()))

@@ -209,6 +209,11 @@ no_file_there : (home : PoolId) (pool : PoolState) (d : Disk) → Differ (ids_of
 no_file_there home pool d differ p none =
     all_weaken (λ g. file_of g.id d ≡ Some g) (λ g. is_pool_place home.part home.kib g.place ≡ false) (λ g e. sym (whole_has pool d p home.part home.kib g e) ∙ none g.id) d (all_found d differ)
 
+-- a pool without a file of its home: the disk has none either
+pub no_empty : (home : PoolId) (pool : PoolState) (d : Disk) → Differ (ids_of (full d)) → IsPoolOf pool [] d → least_id home pool.files ≡ None → list_any (λ g. is_pool_place home.part home.kib g.place) d ≡ false
+no_empty home pool d differ p e =
+    none_any (λ g. is_pool_place home.part home.kib g.place) d (no_file_there home pool d differ p (subst (IsLeastOf (λ j. has home.part home.kib j pool.files)) e (least_is home pool.files)))
+
 least_by : (home : PoolId) (pool : PoolState) (id : ℕ) (x y : Content) → IsWholePool pool x.now.disk → (o : Option ℕ) → IsLeastOf (λ j. has home.part home.kib j pool.files) o → id ≡ first_or o (pool.greatest + 1)
     → Obtains home pool.greatest o x y → IsLeastOnDisk home.part home.kib id y.now.disk
 least_by home pool id x y w (Some n) least is e =
@@ -233,7 +238,7 @@ pub blank_least : (home : PoolId) (pool new : PoolState) (id : ℕ) (x y : Conte
     → IsLeastOnDisk home.part home.kib id y.now.disk
 blank_least home pool new id x y h e w = least_by home pool id x y w (least_id home pool.files) (least_is home pool.files) h.id e
 
-create_step : (home : PoolId) (pool : PoolState) (m : Moment) → Differ (ids_of (full m.disk)) → IsPoolOf pool [] m.disk → IsLeastOf (λ j. has home.part home.kib j pool.files) None → IsPoolStep m (created home pool.greatest m)
+pub create_step : (home : PoolId) (pool : PoolState) (m : Moment) → Differ (ids_of (full m.disk)) → IsPoolOf pool [] m.disk → IsLeastOf (λ j. has home.part home.kib j pool.files) None → IsPoolStep m (created home pool.greatest m)
 create_step home pool m differ p none =
     step_create m (pool.greatest + 1) home.part home.kib (next_of pool [] m.disk p) (none_any (λ g. is_pool_place home.part home.kib g.place) m.disk (no_file_there home pool m.disk differ p none)) differ
 

@@ -3,6 +3,7 @@ pub mod Takes
 pub mod Agreeing
 pub mod Decided
 pub mod Steps
+pub mod Ordered
 pub mod Placing
 pub mod Above
 pub mod Whole

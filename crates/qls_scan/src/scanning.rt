@@ -2,7 +2,7 @@
 ghost use Rattle.std.specs.Prelude.{◌≡◌, Ok, not, map, IfOk, IfSome, OnOk};
 ghost use Rattle.std.specs.List.{filter};
 ghost use Rattle.qls_shape.specs.Claims.{each};
-ghost use Rattle.qls_site.specs.Disk.{full};
+ghost use Rattle.qls_site.specs.Disk.{IdsRise, full};
 ghost use Rattle.qls_site.specs.Content.{Tells, OnlyLooks};
 ghost use Rattle.qls_meaning.specs.Journals.{is_in_use};
 ghost use Rattle.qls_scan.specs.Found.{IsFound, IsFirstDamage, IsSound, HasCause, greatest};
@@ -28,6 +28,7 @@ use std::alloc::Global;
 pub fn scan<S: Site>(alloc: Global, site: &mut S) -> Result<Found, ScanFault>
     ensures found { IfSome (S.told site.old) (λ c. IfOk result (IsFound (full c.now.disk))) }
     ensures damage { IfSome (S.told site.old) (λ c. IsFirstDamage (full c.now.disk) result) }
+    ensures rising { IfSome (S.told site.old) (λ c. IdsRise (full c.now.disk)) }
     ensures sound { IfOk result IsSound }
     ensures told { Tells OnlyLooks (S.told site.old) (S.told site.new) }
     ensures cause { HasCause (S.faults site.old) (S.faults site.new) result }

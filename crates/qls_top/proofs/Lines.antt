@@ -1,87 +1,187 @@
 -- A line that is run and answered, and a script that is run line by line.
-use Rattle.std.proofs.Common.{◌≡◌, ◌≢◌, inl, inr, ℕ, Bool, true, false, cond, leb, ◌<◌, List, [], ◌∷◌, ◌++◌, map, length, take, Option, Some, None, IfSome, Result, Ok, Err, refl, sym, ap, ◌∙◌, subst, arith, append_assoc, append-nil, length-take}
+use Rattle.std.proofs.Common.{◌≡◌, inl, inr, ℕ, Bool, true, false, cond, not, leb, ◌==◌, ◌&&◌, ◌<◌, eq-eqb, List, [], ◌∷◌, ◌++◌, map, length, take, Option, Some, None, IfSome, Result, Ok, Err, refl, sym, ap, ◌∙◌, subst, arith, append_assoc, append-nil, length-take}
 use Rattle.std.proofs.lemmas.Bool.{leb-true}
 use Rattle.std.proofs.lemmas.List.{take_all}
 use Rattle.qls_model.specs.declared.machine.PoolId.{PoolId}
 use Rattle.qls_model.specs.declared.machine.Command.{Command}
-use Rattle.qls_model.specs.Machine.{MachineState, empty_state, queue_named}
-use Rattle.qls_top.specs.Stored.{IsStored}
+use Rattle.qls_model.specs.declared.machine.Command.TheVariants as command
+use Rattle.qls_model.specs.Machine.{MachineState, queue_named}
 use Rattle.qls_site.specs.declared.site.SiteError.{SiteError}
 use Rattle.qls_site.specs.declared.site.SiteError.TheVariants.{Failed, Memory}
-use Rattle.qls_site.specs.declared.site.FileAt.{FileAt}
-use Rattle.qls_site.specs.Disk.{Disk, IsQuiet, file_of, listing}
-use Rattle.qls_site.specs.Content.{Content, Moment, Acts, Stays, MayAct, Leads, Tells, on_answered, IsListed}
+use Rattle.qls_site.specs.Disk.{Disk, Image, IsQuiet, file_of, full}
+use Rattle.qls_site.specs.Content.{Content, Moment, Acts, MayAct, Leads, Tells, on_answered}
+use Rattle.qls_site.proofs.Told.{Tells-then, Tells-weaken}
+use Rattle.qls_meaning.specs.Journals.{Headed}
+use Rattle.qls_meaning.specs.History.{AllUnmarked, newly_used}
+use Rattle.qls_meaning.specs.Spent.{greatest_id, has_empty, last_count, new_journal_meets_end}
+use Rattle.qls_pool.specs.Pools.{PoolState, IsSpent}
+use Rattle.qls_pool.specs.Files.{IdsDiffer, IsWholePool, OnDisk}
+use Rattle.qls_pool.proofs.FirstTaken.{same_is_step, same_takes_none}
+use Rattle.qls_pool.proofs.Taken.{no_empty}
 use Rattle.qls_command.specs.Lines.{lines, command_of, command_of_words, words, commands}
 use Rattle.qls_top.specs.declared.answer.Answer.{Answer}
-use Rattle.qls_top.specs.declared.files.QueueFile.{QueueFile}
 use Rattle.qls_top.specs.declared.session.Session.{Session}
 use Rattle.qls_top.specs.declared.fault.Fault.{Fault}
 use Rattle.qls_top.specs.declared.fault.Fault.TheVariants as fault
 use Rattle.qls_top.specs.Answers.{answer_text, answer_line, built_line, state_answered, answers_text}
-use Rattle.qls_top.specs.Cutting.{Cutter, kept_of_line, CutsTold}
-use Rattle.qls_top.specs.Moments.{Arrives, Passes, Quietly, EndsIn}
-use Rattle.qls_top.specs.Table.{Fits, Pairs, entry_named}
-use Rattle.qls_top.specs.Sessions.{FitsSession, RunsCommand, RunsLine, HasQuietDisk}
-use Rattle.std.proofs.Common.{IfErr}
-use Rattle.qls_top.specs.Status.{IsOfLines, status_of}
-use Rattle.qls_top.specs.Run.{IsUnderWay, UnderWay, IsRun, EndsFrom, Starts, StartsOn, StartsWith, StaysAsItWas, refuses_status, refuses_files, status_of_result}
-use Rattle.qls_top.proofs.Chains.{Went, Goes, Arrives-then, Arrives-acts, Arrives-passes, Passes-may, Passes-same}
-use Rattle.qls_site.proofs.Told.{Tells-then}
-use Rattle.qls_top.proofs.Putting.{fits_empty}
+use Rattle.qls_top.specs.Cutting.{Cutter, kept_of_line, CutsTold, Counted, script_limit}
+use Rattle.qls_top.specs.Moments.{last_moment, Arrives, Passes, AddsAnswer, Quietly, AnswersQuietly, StaysQuiet, EndsIn, IsRunStep, IsSilentStep}
+use Rattle.qls_top.specs.Serials.{TakesNone, serials_taken, is_exact}
+use Rattle.qls_top.specs.Table.{Pairs, IsCleanTable, entry_named}
+use Rattle.qls_top.specs.Sessions.{FitsSession, IsCleanSession, RunsCommand, RunsLine, NeedsFile}
+use Rattle.qls_top.specs.Stored.{IsStored}
+use Rattle.qls_top.specs.Status.{status_of, IsOfLine}
+use Rattle.qls_top.specs.Run.{IsUnderWay, UnderWay, IsRun, EndsClean, StaysClean, MeetsEnd, SpentFrom, MayBegin, MayNotBegin, Starts, StartsOn, StartsWith, StaysAsItWas, refuses_status, refuses_start, status_of_result, is_exact_status, is_too_long, ReadsBytes, ReadBytes}
+use Rattle.qls_top.proofs.Came.{none_came, none_same}
+use Rattle.qls_top.proofs.Chains.{Arrives-none, Arrives-then, Arrives-acts, Arrives-passes, Passes-may, Passes-same, Passes-of, since_is, since_of, since_then, silent_arrives, silent_arrives_quietly, answers_nothing}
 use Rattle.qls_top.proofs.Fitting.{stored}
 
 -- ---- the answer
 
-fits_same : (home : PoolId) (S : MachineState) (files : List QueueFile) (c e : Content) → e.now.disk ≡ c.now.disk → Fits home S files c → Fits home S files e
-fits_same home S files c e same f = record {
-  quiet = subst IsQuiet (sym same) f.quiet;
-  pairs = λ n. subst (λ (d : Disk). Pairs home d (entry_named n files) (queue_named n S.queues)) (sym same) (f.pairs n);
+fits_same : (s : Session) (c e : Content) → e.now.disk ≡ c.now.disk → FitsSession s c → FitsSession s e
+fits_same s c e same f = record {
+  pool = subst (IsWholePool s.pool) (sym same) f.pool;
+  limit = f.limit;
+  pairs = λ n. subst (λ (d : Disk). Pairs s.home d (entry_named n s.files.items) (queue_named n s.state.queues)) (sym same) (f.pairs n);
   distinct = f.distinct;
-  own = λ id g h. f.own id g (ap (file_of id) (sym same) ∙ h);
-  below = f.below;
+  own = λ id g h used. f.own id g (ap (file_of id) (sym same) ∙ h) used;
 }
 
--- the answer failed, or memory was wanting: nothing is pending, so what was answered was answered quietly
-refused_in : (bytes : List ℕ) (done : Content → Content → Type 0) (e : SiteError) (mid new : Content) → IsQuiet mid.now.disk
-    → Leads {X = Unit {0}} done (MayAct (on_answered bytes)) (Err e) mid new → Passes Quietly mid new
-refused_in bytes done Failed mid new quiet may = Passes-may Quietly (on_answered bytes) mid new (inl refl) (inr quiet) may
-refused_in bytes done Memory mid new quiet same = Passes-same Quietly mid new same
+-- a moment that has the disk of the one before
+pub same_disk : (m n : Moment) → IdsDiffer m.disk → n.disk ≡ m.disk → IsRunStep m n
+same_disk m n differ e = record { pool = same_is_step m n differ e; first = same_takes_none m n differ e }
 
-pub answer_refused : (bytes : List ℕ) (done : Content → Content → Type 0) (e : SiteError) (mid new : Option Content) → IfSome mid HasQuietDisk
-    → Tells (Leads {X = Unit {0}} done (MayAct (on_answered bytes)) (Err e)) mid new → Went mid new
-answer_refused bytes done e None None quiet may = tt
-answer_refused bytes done e None (Some new) quiet may = absurd may
-answer_refused bytes done e (Some mid) None quiet may = absurd may
-answer_refused bytes done e (Some mid) (Some new) quiet may = refused_in bytes done e mid new quiet may
+none_comes : (m n : Moment) → IdsDiffer m.disk → n.disk ≡ m.disk → newly_used m n ≡ []
+none_comes m n differ e = none_came m n (none_same m n differ e)
 
-module _ (S : MachineState) (line : Option Command) (s : Session) (answer : Answer) where
-  answered_in : (old mid new : Content) → RunsCommand S (built_line line) s answer old mid → Acts (on_answered (answer_text answer)) mid new → RunsLine S line s old new
+-- what an answer does
+pub record Answers (bytes : List ℕ) (mid new : Content) : Type 0 where
+  pub passes : Passes IsRunStep mid new
+  pub quietly : AnswersQuietly mid new
+  pub none : TakesNone mid new
+  pub adds : AddsAnswer bytes mid new
+
+taken_one : (a b : Content) (n : Moment) → IdsDiffer a.now.disk → n.disk ≡ a.now.disk → (h : Passes IsRunStep a b) → h.since ≡ n ∷ [] → TakesNone a b
+taken_one a b n differ e h is =
+    ap (serials_taken a.now) (since_is IsRunStep a b h ∙ is) ∙ ap (λ (fs : List Headed). map (λ f. f.header.serial) fs ++ []) (none_comes a.now n differ e)
+
+taken_two : (a b : Content) (m n : Moment) → IdsDiffer a.now.disk → m ≡ a.now → n.disk ≡ a.now.disk → (h : Passes IsRunStep a b) → h.since ≡ m ∷ n ∷ [] → TakesNone a b
+taken_two a b m n differ same e h is =
+    ap (serials_taken a.now) (since_is IsRunStep a b h ∙ is)
+    ∙ ap (λ (fs : List Headed). map (λ f. f.header.serial) fs ++ serials_taken m (n ∷ [])) (none_comes a.now m differ (ap (λ (x : Moment). x.disk) same))
+    ∙ ap (λ (x : Moment). serials_taken x (n ∷ [])) same ∙ ap (λ (fs : List Headed). map (λ f. f.header.serial) fs ++ []) (none_comes a.now n differ e)
+
+answered_ok : (bytes : List ℕ) (mid new : Content) → IdsDiffer mid.now.disk → Acts (on_answered bytes) mid new → Answers bytes mid new
+answered_ok bytes mid new differ acts =
+    let passes : Passes IsRunStep mid new = Passes-of IsRunStep mid new (Arrives-acts IsRunStep (on_answered bytes) mid new (same_disk mid.now (on_answered bytes mid.now) differ refl) acts) in
+    record {
+      passes = passes;
+      quietly = λ q. Passes-of Quietly mid new (Arrives-acts Quietly (on_answered bytes) mid new (inr q) acts);
+      none = taken_one mid new (on_answered bytes mid.now) differ refl passes refl;
+      adds = inr (inl (since_is IsRunStep mid new passes));
+    }
+
+answered_failed : (bytes : List ℕ) (mid new : Content) → IdsDiffer mid.now.disk → MayAct (on_answered bytes) mid new → Answers bytes mid new
+answered_failed bytes mid new differ may =
+    let passes : Passes IsRunStep mid new =
+    Passes-may IsRunStep (on_answered bytes) mid new (same_disk mid.now mid.now differ refl) (same_disk mid.now (on_answered bytes mid.now) differ refl) may in
+    record {
+      passes = passes;
+      quietly = λ q. Passes-may Quietly (on_answered bytes) mid new (inl refl) (inr q) may;
+      none = taken_two mid new mid.now (on_answered bytes mid.now) differ refl refl passes refl;
+      adds = inr (inr (since_is IsRunStep mid new passes));
+    }
+
+answered_same : (bytes : List ℕ) (mid new : Content) → new ≡ mid → Answers bytes mid new
+answered_same bytes mid new same = let passes : Passes IsRunStep mid new = Passes-same IsRunStep mid new same in record {
+  passes = passes;
+  quietly = λ q. Passes-same Quietly mid new same;
+  none = ap (serials_taken mid.now) (since_is IsRunStep mid new passes);
+  adds = inl (since_is IsRunStep mid new passes);
+}
+
+answered_by : (bytes : List ℕ) (r : Result (Unit {0}) SiteError) (mid new : Content) → IdsDiffer mid.now.disk → Leads (Acts (on_answered bytes)) (MayAct (on_answered bytes)) r mid new → Answers bytes mid new
+answered_by bytes (Ok x) mid new differ h = answered_ok bytes mid new differ h
+answered_by bytes (Err Failed) mid new differ h = answered_failed bytes mid new differ h
+answered_by bytes (Err Memory) mid new differ h = answered_same bytes mid new h
+
+pub told_answers : (bytes : List ℕ) (r : Result (Unit {0}) SiteError) (mid new : Option Content) → IfSome mid (OnDisk IdsDiffer) → Tells (Leads (Acts (on_answered bytes)) (MayAct (on_answered bytes)) r) mid new → Tells (Answers bytes) mid new
+told_answers bytes r None None differ h = tt
+told_answers bytes r None (Some new) differ h = absurd h
+told_answers bytes r (Some mid) None differ h = absurd h
+told_answers bytes r (Some mid) (Some new) differ h = answered_by bytes r mid new differ h
+
+pub of_answers : (bytes : List ℕ) (R : Content → Content → Type 0) → ((x y : Content) → Answers bytes x y → R x y) → (a b : Option Content) → Tells (Answers bytes) a b → Tells R a b
+of_answers bytes R f a b h = Tells-weaken (Answers bytes) R a b h f
+
+-- an answer's moments, by its result
+pub answer_passes : (answer : Answer) (r : Result (Unit {0}) Fault) (mid new : Option Content) → IfSome mid (OnDisk IdsDiffer) → Tells (EndsIn (λ _. Acts (on_answered (answer_text answer))) (Passes IsRunStep) r) mid new → Tells (Passes IsRunStep) mid new
+answer_passes answer (Ok x) None None differ h = tt
+answer_passes answer (Ok x) None (Some new) differ h = absurd h
+answer_passes answer (Ok x) (Some mid) None differ h = absurd h
+answer_passes answer (Ok x) (Some mid) (Some new) differ h = (answered_ok (answer_text answer) mid new differ h).passes
+answer_passes answer (Err f) mid new differ h = h
+
+-- ---- unmarked files, call after call
+
+pub unmarked_front : (m : Moment) (xs ys : List Moment) → AllUnmarked m (xs ++ ys) → AllUnmarked m xs
+unmarked_front m [] ys h = tt
+unmarked_front m (n ∷ xs) ys h = (h.0, unmarked_front n xs ys h.1)
+
+pub unmarked_rest : (m : Moment) (xs ys : List Moment) → AllUnmarked m (xs ++ ys) → AllUnmarked (last_moment m xs) ys
+unmarked_rest m [] ys h = h
+unmarked_rest m (n ∷ xs) ys h = unmarked_rest n xs ys h.1
+
+-- ---- a line
+
+module _ (was : Session) (line : Option Command) (s : Session) (answer : Answer) where
+  answered_in : (old mid new : Content) → RunsCommand was (built_line line) s answer old mid → Acts (on_answered (answer_text answer)) mid new → RunsLine was line s old new
   answered_in old mid new r acts =
       let now = ap (λ (c : Content). c.now) acts in
+      let disk : new.now.disk ≡ mid.now.disk = ap (λ (m : Moment). m.disk) now in
+      let one : Arrives IsRunStep mid new =
+      Arrives-acts IsRunStep (on_answered (answer_text answer)) mid new (same_disk mid.now (on_answered (answer_text answer) mid.now) r.fits.pool.0 refl) acts in
       record {
         state = ap (λ p. p.0) r.stepped;
-        arrives = Arrives-then Quietly old mid new r.arrives (Arrives-acts Quietly (on_answered (answer_text answer)) mid new (inr r.fits.quiet) acts);
-        answered = ap (λ (m : Moment). m.answered) now ∙ ap (λ (a : List ℕ). a ++ answer_text answer) r.answered ∙ ap (λ p. old.now.answered ++ answer_text p.1) r.stepped;
-        fits = fits_same s.home s.state s.files.items mid new (ap (λ (m : Moment). m.disk) now) r.fits;
+        arrives = Arrives-then IsRunStep old mid new (silent_arrives old mid r.arrives) one;
+        quiet = λ q. subst IsQuiet (sym disk) (r.quiet q);
+        answered = ap (λ (m : Moment). m.answered) now ∙ ap (λ (a : List ℕ). a ++ answer_text answer) (answers_nothing old mid r.arrives) ∙ ap (λ p. old.now.answered ++ answer_text p.1) r.stepped;
+        fits = fits_same s mid new disk r.fits;
+        clean = λ unmarked clean.
+            subst (λ (d : Disk). IsCleanTable s.files.items d) (sym disk) (r.clean (unmarked_front old.now r.arrives.since (on_answered (answer_text answer) mid.now ∷ []) unmarked) clean);
       }
 
   -- by the result of the answer
-  ended_in : (r : Result (Unit {0}) Fault) (old mid new : Content) → RunsCommand S (built_line line) s answer old mid
-      → EndsIn (λ _. Acts (on_answered (answer_text answer))) (Passes Quietly) r mid new → EndsIn (λ _. RunsLine S line s) (Passes Quietly) r old new
+  ended_in : (r : Result (Unit {0}) Fault) (old mid new : Content) → RunsCommand was (built_line line) s answer old mid
+      → EndsIn (λ _. Acts (on_answered (answer_text answer))) (Passes IsRunStep) r mid new → EndsIn (λ _. RunsLine was line s) (Passes IsRunStep) r old new
   ended_in (Ok x) old mid new r h = answered_in old mid new r h
-  ended_in (Err f) old mid new r h = Arrives-passes Quietly old mid new r.arrives h
+  ended_in (Err f) old mid new r h = Arrives-passes IsRunStep old mid new (silent_arrives old mid r.arrives) h
 
-  pub line_ended : (r : Result (Unit {0}) Fault) (old mid new : Option Content) → Tells (RunsCommand S (built_line line) s answer) old mid
-      → Tells (EndsIn (λ _. Acts (on_answered (answer_text answer))) (Passes Quietly) r) mid new → Tells (EndsIn (λ _. RunsLine S line s) (Passes Quietly) r) old new
+  pub line_ended : (r : Result (Unit {0}) Fault) (old mid new : Option Content) → Tells (RunsCommand was (built_line line) s answer) old mid
+      → Tells (EndsIn (λ _. Acts (on_answered (answer_text answer))) (Passes IsRunStep) r) mid new → Tells (EndsIn (λ _. RunsLine was line s) (Passes IsRunStep) r) old new
   line_ended r old mid new a b =
-      Tells-then (RunsCommand S (built_line line) s answer) (EndsIn (λ _. Acts (on_answered (answer_text answer))) (Passes Quietly) r) (EndsIn (λ _. RunsLine S line s) (Passes Quietly) r) old mid new a b (ended_in r)
+      Tells-then (RunsCommand was (built_line line) s answer) (EndsIn (λ _. Acts (on_answered (answer_text answer))) (Passes IsRunStep) r) (EndsIn (λ _. RunsLine was line s) (Passes IsRunStep) r) old mid new a b (ended_in r)
 
--- a command leaves nothing pending
-pub quiet_after : (S : MachineState) (command : Option Command) (s : Session) (answer : Answer) (old new : Option Content) → Tells (RunsCommand S command s answer) old new → IfSome new HasQuietDisk
-quiet_after S command s answer None None r = tt
-quiet_after S command s answer None (Some new) r = absurd r
-quiet_after S command s answer (Some old) None r = absurd r
-quiet_after S command s answer (Some old) (Some new) r = r.fits.quiet
+  quiet_in : (old mid new : Content) → RunsCommand was (built_line line) s answer old mid → AnswersQuietly mid new → AnswersQuietly old new
+  quiet_in old mid new r h = λ q. Arrives-passes Quietly old mid new (silent_arrives_quietly old mid r.arrives) (h (r.quiet q))
+
+  pub line_quiet : (old mid new : Option Content) → Tells (RunsCommand was (built_line line) s answer) old mid → Tells AnswersQuietly mid new → Tells AnswersQuietly old new
+  line_quiet old mid new a b = Tells-then (RunsCommand was (built_line line) s answer) AnswersQuietly AnswersQuietly old mid new a b quiet_in
+
+  -- the chain of the command
+  pub command_arrives : (old mid : Option Content) → Tells (RunsCommand was (built_line line) s answer) old mid → Tells (Arrives IsSilentStep) old mid
+  command_arrives old mid h = Tells-weaken (RunsCommand was (built_line line) s answer) (Arrives IsSilentStep) old mid h (λ x y r. r.arrives)
+
+-- a command leaves ids that differ
+pub differ_after : (was : Session) (command : Option Command) (s : Session) (answer : Answer) (old new : Option Content) → Tells (RunsCommand was command s answer) old new → IfSome new (OnDisk IdsDiffer)
+differ_after was command s answer None None r = tt
+differ_after was command s answer None (Some new) r = absurd r
+differ_after was command s answer (Some old) None r = absurd r
+differ_after was command s answer (Some old) (Some new) r = r.fits.pool.0
+
+pub ends_passes : {X : Type 0} (done : X → Content → Content → Type 0) (r : Result X Fault) (a b : Option Content) → ((x : X) (c e : Content) → done x c e → Passes IsRunStep c e) → Tells (EndsIn done (Passes IsRunStep) r) a b → Tells (Passes IsRunStep) a b
+ends_passes done (Ok x) a b f h = Tells-weaken (done x) (Passes IsRunStep) a b h (f x)
+ends_passes done (Err e) a b f h = h
 
 -- ---- a line that was cut
 
@@ -102,25 +202,40 @@ kept_command line = short_or_long line (leb (length line) 2100000) refl
 
 -- ---- the script, line by line
 
+pub answers_append : (kib : ℕ) (S : MachineState) (cs ds : List (Option Command)) → answers_text kib S (cs ++ ds) ≡ answers_text kib S cs ++ answers_text kib (state_answered kib S cs) ds
+answers_append kib S [] ds = refl
+answers_append kib S (c ∷ cs) ds =
+    let here = answer_line kib S c in
+    ap (λ (t : List ℕ). answer_text here.1 ++ t) (answers_append kib here.0 cs ds) ∙ sym (append_assoc (answer_text here.1) (answers_text kib here.0 cs) (answers_text kib (state_answered kib here.0 cs) ds))
+
+pub state_append : (kib : ℕ) (S : MachineState) (cs ds : List (Option Command)) → state_answered kib S (cs ++ ds) ≡ state_answered kib (state_answered kib S cs) ds
+state_append kib S [] ds = refl
+state_append kib S (c ∷ cs) ds = state_append kib (answer_line kib S c).0 cs ds
+
+-- what a cut leaves of the commands
+pub cut_split : (script before rest line kept : List ℕ) (done : List (Option Command)) → commands script ≡ done ++ commands before → lines before ≡ line ∷ lines rest → kept ≡ kept_of_line line
+    → commands script ≡ done ++ command_of kept ∷ commands rest
+cut_split script before rest line kept done split cut is =
+    split ∙ ap (λ cs. done ++ cs) (ap (map command_of) cut ∙ ap (λ (c : Option Command). c ∷ commands rest) (sym (ap command_of is ∙ kept_command line)))
+
 step_in : (home : PoolId) (Z : MachineState) (script before rest line kept : List ℕ) (s t : Session) (old mid new : Content) → s.home ≡ home → t.home ≡ home → lines before ≡ line ∷ lines rest → kept ≡ kept_of_line line
-    → IsUnderWay home Z script before s old mid → RunsLine s.state (command_of kept) t mid new → IsUnderWay home Z script rest t old new
+    → IsUnderWay home Z script before s old mid → RunsLine s (command_of kept) t mid new → IsUnderWay home Z script rest t old new
 step_in home Z script before rest line kept s t old mid new hs ht cut is u r =
-    let command : command_of kept ≡ command_of line = ap command_of is ∙ kept_command line in
-    let split : commands before ≡ command_of kept ∷ commands rest = ap (map command_of) cut ∙ ap (λ (c : Option Command). c ∷ commands rest) (sym command) in
-    let step : answer_line t.home.kib s.state (command_of kept) ≡ answer_line home.kib s.state (command_of kept) = ap (λ (p : PoolId). answer_line p.kib s.state (command_of kept)) ht in
-    let text : List ℕ = answer_text (answer_line home.kib s.state (command_of kept)).1 in
-    let state : (answer_line home.kib s.state (command_of kept)).0 ≡ t.state = sym (r.state ∙ ap (λ p. p.0) step) in
+    let c : Option Command = command_of kept in
+    let step : answer_line t.home.kib s.state c ≡ answer_line home.kib (state_answered home.kib Z u.done) c = (λ i. answer_line (ht i).kib (u.state i) c) in
     record {
-      so_far = u.so_far ++ text;
-      answered = r.answered ∙ ap (λ p. mid.now.answered ++ answer_text p.1) step ∙ ap (λ (a : List ℕ). a ++ text) u.answered ∙ append_assoc old.now.answered u.so_far text;
-      answers =
-          u.answers ∙ ap (λ cs. u.so_far ++ answers_text home.kib s.state cs) split
-          ∙ ap (λ (S : MachineState). u.so_far ++ (text ++ answers_text home.kib S (commands rest))) state ∙ sym (append_assoc u.so_far text (answers_text home.kib t.state (commands rest)));
-      state = u.state ∙ ap (state_answered home.kib s.state) split ∙ ap (λ (S : MachineState). state_answered home.kib S (commands rest)) state;
+      done = u.done ++ c ∷ [];
+      split = cut_split script before rest line kept u.done u.split cut is ∙ sym (append_assoc u.done (c ∷ []) (commands rest));
+      answered =
+          r.answered ∙ ap (λ p. mid.now.answered ++ answer_text p.1) step ∙ ap (λ (a : List ℕ). a ++ answer_text (answer_line home.kib (state_answered home.kib Z u.done) c).1) u.answered
+          ∙ append_assoc old.now.answered (answers_text home.kib Z u.done) (answer_text (answer_line home.kib (state_answered home.kib Z u.done) c).1)
+          ∙ ap (λ (a : List ℕ). old.now.answered ++ a)
+          (ap (λ (a : List ℕ). answers_text home.kib Z u.done ++ a) (sym (append-nil (answer_text (answer_line home.kib (state_answered home.kib Z u.done) c).1))) ∙ sym (answers_append home.kib Z u.done (c ∷ [])));
+      state = r.state ∙ ap (λ p. p.0) step ∙ sym (state_append home.kib Z u.done (c ∷ []));
     }
 
 pub line_run : (home : PoolId) (Z : MachineState) (old mid new : Option Content) (script left rest : Option (List ℕ)) (a b : Cutter) (kept : List ℕ) (s t : Session) → s.home ≡ home → t.home ≡ home
-    → UnderWay home Z old mid script a.waiting left s → CutsTold a left b rest kept true → Tells (RunsLine s.state (command_of kept) t) mid new → UnderWay home Z old new script b.waiting rest t
+    → UnderWay home Z old mid script a.waiting left s → CutsTold a left b rest kept true → Tells (RunsLine s (command_of kept) t) mid new → UnderWay home Z old new script b.waiting rest t
 line_run home Z None mid new script left rest a b kept s t hs ht u cut r = tt
 line_run home Z (Some old) mid None script left rest a b kept s t hs ht u cut r = tt
 line_run home Z (Some old) mid (Some new) None left rest a b kept s t hs ht u cut r = tt
@@ -130,73 +245,194 @@ line_run home Z (Some old) (Some mid) (Some new) (Some script) None (Some m) a b
 line_run home Z (Some old) (Some mid) (Some new) (Some script) (Some l) (Some m) a b kept s t hs ht u cut r =
     step_in home Z script (a.waiting ++ l) (b.waiting ++ m) cut.0 kept s t old mid new hs ht cut.1 cut.2 u r
 
+-- ---- a run that ends since no file is left
+
+-- the pool is spent, so the disk is
+no_file_of : (home : PoolId) (pool : PoolState) (d : Disk) → IsWholePool pool d → IsSpent home pool → new_journal_meets_end home d ≡ true
+no_file_of home pool d whole spent =
+    let last : (greatest_id d == last_count) ≡ true = eq-eqb (greatest_id d) last_count (sym whole.1.greatest ∙ spent.last) in
+    let none : has_empty home d ≡ false = no_empty home pool d whole.0 whole.1 spent.empty in
+    λ i. last i && not (none i)
+
+-- only the line of a new queue is built as one
+built_is : (c : Option Command) (name : List ℕ) → built_line c ≡ Some (command.Queue name None) → c ≡ Some (command.Queue name None)
+built_is None name e = absurd (cc)
+built_is (Some (command.Queue n None)) name e = e
+built_is (Some (command.Queue n (Some home))) name e = absurd (cc)
+built_is (Some (command.Drop n)) name e = absurd (cc)
+built_is (Some (command.Put n body None)) name e = absurd (other e)
+  where
+    other : Some (command.Put n body None) ≡ Some (command.Queue name None) → ⊥
+    other e = cc
+built_is (Some (command.Put n body (Some x))) name e = absurd (cc)
+built_is (Some (command.Take n number xid)) name e = absurd (cc)
+built_is (Some (command.Begin x)) name e = absurd (cc)
+built_is (Some (command.Prepare x)) name e = absurd (cc)
+built_is (Some (command.Commit x)) name e = absurd (cc)
+built_is (Some (command.Abort x)) name e = absurd (cc)
+built_is (Some (command.List n)) name e = absurd (cc)
+built_is (Some command.Doubt) name e = absurd (cc)
+
+spent_in : (home : PoolId) (Z : MachineState) (script before rest line kept : List ℕ) (s : Session) (old new : Content) → s.home ≡ home → lines before ≡ line ∷ lines rest → kept ≡ kept_of_line line
+    → IsUnderWay home Z script before s old new → FitsSession s new → NeedsFile s (built_line (command_of kept)) → MeetsEnd home Z script old new
+spent_in home Z script before rest line kept s old new hs cut is u fits needs = record {
+  done = u.done;
+  name = needs.name;
+  rest = commands rest;
+  split = cut_split script before rest line kept u.done u.split cut is ∙ ap (λ (c : Option Command). u.done ++ c ∷ commands rest) (built_is (command_of kept) needs.name needs.makes);
+  answered = u.answered;
+  accepted = ap (λ (S : MachineState). queue_named needs.name S.queues) (sym u.state) ∙ needs.accepted;
+  spent = ap (λ (p : PoolId). new_journal_meets_end p new.now.disk) (sym hs) ∙ no_file_of s.home s.pool new.now.disk fits.pool needs.spent;
+}
+
+pub line_spent : (home : PoolId) (Z : MachineState) (old mid new : Option Content) (script left rest : Option (List ℕ)) (a b : Cutter) (kept : List ℕ) (s : Session) (limit : ℕ) → s.home ≡ home
+    → UnderWay home Z old mid script a.waiting left s → Counted limit script a.budget left (Ok true) → IfSome mid (FitsSession s) → CutsTold a left b rest kept true → new ≡ mid
+    → NeedsFile s (built_line (command_of kept)) → SpentFrom home Z old new script
+line_spent home Z None mid new script left rest a b kept s limit hs u counted fits cut same needs = tt
+line_spent home Z (Some old) mid None script left rest a b kept s limit hs u counted fits cut same needs = tt
+line_spent home Z (Some old) mid (Some new) None left rest a b kept s limit hs u counted fits cut same needs = tt
+line_spent home Z (Some old) None (Some new) (Some script) left rest a b kept s limit hs u counted fits cut same needs = absurd (cc)
+line_spent home Z (Some old) (Some mid) (Some new) (Some script) None rest a b kept s limit hs u counted fits cut same needs = absurd counted
+line_spent home Z (Some old) (Some mid) (Some new) (Some script) (Some l) None a b kept s limit hs u counted fits cut same needs = absurd cut
+line_spent home Z (Some old) (Some mid) (Some new) (Some script) (Some l) (Some m) a b kept s limit hs u counted fits cut same needs =
+    subst (MeetsEnd home Z script old) (sym (some_is same)) (spent_in home Z script (a.waiting ++ l) (b.waiting ++ m) cut.0 kept s old mid hs cut.1 cut.2 u fits needs)
+  where
+    some_is : Some new ≡ Some mid → new ≡ mid
+    some_is e = cc
+
+-- no more was read than the limit, where a line ended the run
+pub read_so_far : (f : Fault) (a b : Option (List ℕ)) (budget : ℕ) → IsOfLine f → Counted script_limit a budget b (Ok true) → ReadsBytes (is_too_long (Err f)) a b
+read_so_far f None b budget only h = tt
+read_so_far f (Some l) None budget only h = tt
+read_so_far f (Some l) (Some m) budget only h = subst (λ e. ReadBytes e l m) (sym (not_long f only)) (omega (arith, h))
+  where
+    not_long : (f : Fault) → IsOfLine f → is_too_long (Err f) ≡ false
+    not_long fault.TooLong only = absurd (cc)
+    not_long fault.Source only = refl
+    not_long fault.Site only = refl
+    not_long fault.Memory only = refl
+    not_long fault.Draw only = refl
+    not_long fault.Spent only = refl
+    not_long fault.NotEmpty only = refl
+
 -- ---- the end of the script
 
 nothing_left : (a b : List ℕ) → a ++ b ≡ [] → b ≡ []
 nothing_left [] b e = e
 nothing_left (x ∷ a) b e = absurd (cc)
 
-end_in : (home : PoolId) (Z : MachineState) (script : List ℕ) (rest : List ℕ) (s : Session) (old new : Content) → s.home ≡ home → rest ≡ [] → IsUnderWay home Z script rest s old new → FitsSession s new → IsRun home Z script old new
-end_in home Z script rest s old new h none u fits = record {
-  answered = u.answered ∙ ap (λ (a : List ℕ). old.now.answered ++ a) (sym (u.answers ∙ ap (λ (r : List ℕ). u.so_far ++ answers_text home.kib s.state (commands r)) none ∙ append-nil u.so_far));
-  stored =
-      subst (λ (S : MachineState). IsStored home S new.now.disk) (sym (u.state ∙ ap (λ (r : List ℕ). state_answered home.kib s.state (commands r)) none))
-      (subst (λ (p : PoolId). IsStored p s.state new.now.disk) h (stored s.home s.state s.files.items new fits));
-}
+end_in : (home : PoolId) (Z : MachineState) (script : List ℕ) (rest : List ℕ) (was s : Session) (old new : Content) → s.home ≡ home → rest ≡ [] → IsUnderWay home Z script rest s old new → FitsSession s new
+    → StaysQuiet old new → StaysClean was s old new → IsCleanSession was old → IsRun home Z script old new
+end_in home Z script rest was s old new h none u fits quiet clean begun =
+    let all : commands script ≡ u.done = u.split ∙ ap (λ (r : List ℕ). u.done ++ commands r) none ∙ append-nil u.done in
+    record {
+      answered = u.answered ∙ ap (λ cs. old.now.answered ++ answers_text home.kib Z cs) (sym all);
+      stored = λ q unmarked.
+          subst (λ (S : MachineState). IsStored home S new.now.disk) (u.state ∙ ap (state_answered home.kib Z) (sym all))
+          (subst (λ (p : PoolId). IsStored p s.state new.now.disk) h (stored s.home s.state s.pool s.files.items new fits (clean unmarked begun) (quiet q)));
+    }
 
-pub script_ended : (home : PoolId) (Z : MachineState) (old new : Option Content) (script left rest : Option (List ℕ)) (a b : Cutter) (kept : List ℕ) (s : Session) → s.home ≡ home
-    → UnderWay home Z old new script a.waiting left s → IfSome new (FitsSession s) → CutsTold a left b rest kept false → EndsFrom home Z old new script rest
-script_ended home Z None new script left rest a b kept s h u fits cut = tt
-script_ended home Z (Some old) None script left rest a b kept s h u fits cut = tt
-script_ended home Z (Some old) (Some new) None left rest a b kept s h u fits cut = tt
-script_ended home Z (Some old) (Some new) (Some script) left None a b kept s h u fits cut = tt
-script_ended home Z (Some old) (Some new) (Some script) None (Some m) a b kept s h u fits cut = absurd cut
-script_ended home Z (Some old) (Some new) (Some script) (Some l) (Some m) a b kept s h u fits cut =
-    (nothing_left b.waiting m cut.1, end_in home Z script (a.waiting ++ l) s old new h cut.0 u fits)
+pub script_ended : (home : PoolId) (Z : MachineState) (old new : Option Content) (script left rest : Option (List ℕ)) (a b : Cutter) (kept : List ℕ) (was s : Session) → s.home ≡ home → was.home ≡ home → was.state ≡ Z
+    → UnderWay home Z old new script a.waiting left s → IfSome new (FitsSession s) → Tells StaysQuiet old new → Tells (StaysClean was s) old new → CutsTold a left b rest kept false → EndsClean was old new script rest
+script_ended home Z None new script left rest a b kept was s h wh ws u fits quiet clean cut = tt
+script_ended home Z (Some old) None script left rest a b kept was s h wh ws u fits quiet clean cut = tt
+script_ended home Z (Some old) (Some new) None left rest a b kept was s h wh ws u fits quiet clean cut = tt
+script_ended home Z (Some old) (Some new) (Some script) left None a b kept was s h wh ws u fits quiet clean cut = tt
+script_ended home Z (Some old) (Some new) (Some script) None (Some m) a b kept was s h wh ws u fits quiet clean cut = absurd cut
+script_ended home Z (Some old) (Some new) (Some script) (Some l) (Some m) a b kept was s h wh ws u fits quiet clean cut = λ begun. (
+  nothing_left b.waiting m cut.1,
+  subst (λ (p : PoolId). IsRun p was.state script old new) (sym wh)
+      (subst (λ (S : MachineState). IsRun home S script old new) (sym ws) (end_in home Z script (a.waiting ++ l) was s old new h cut.0 u fits quiet clean begun)),
+)
 
 -- ---- the start
-
-no_files : (d : Disk) → length (listing d) ≡ 0 → d ≡ []
-no_files [] e = refl
-no_files (f ∷ d) e = absurd (omega (arith, e))
 
 -- nothing of the script is run yet
 pub begun : (s : Session) (o : Option Content) (script : Option (List ℕ)) → UnderWay s.home s.state o o script [] script s
 begun s None script = tt
 begun s (Some c) None = tt
-begun s (Some c) (Some script) = record { so_far = []; answered = sym (append-nil c.now.answered); answers = refl; state = refl }
-
-fits_at_start : (files : List FileAt) (s : Session) (old new : Content) → length files ≡ 0 → files ≡ listing old.now.disk → Stays old new → s.state ≡ empty_state → s.files.items ≡ [] → FitsSession s new
-fits_at_start files s old new none listed stays state in_files =
-    let empty : old.now.disk ≡ [] = no_files old.now.disk (ap length (sym listed) ∙ none) in
-    subst (λ (S : MachineState). Fits s.home S s.files.items new) (sym state) (subst (λ (fs : List QueueFile). Fits s.home empty_state fs new) (sym in_files)
-    (fits_empty s.home new (ap (λ (c : Content). c.now.disk) stays ∙ empty)))
-
--- a session without queues fits a site without files
-pub fits_started : (files : List FileAt) (s : Session) (old new : Option Content) → length files ≡ 0 → IsListed old (Ok files) → Tells Stays old new → s.state ≡ empty_state → s.files.items ≡ []
-    → IfSome new (FitsSession s)
-fits_started files s None None none listed stays state in_files = tt
-fits_started files s None (Some new) none listed stays state in_files = absurd stays
-fits_started files s (Some old) None none listed stays state in_files = absurd stays
-fits_started files s (Some old) (Some new) none listed stays state in_files = fits_at_start files s old new none listed stays state in_files
+begun s (Some c) (Some script) = record { done = []; split = refl; answered = sym (append-nil c.now.answered); state = refl }
 
 -- ---- one more line
 
-pub line_went : (S : MachineState) (line : Option Command) (s : Session) (a b c : Option Content) → Goes a b → Tells (RunsLine S line s) b c → Goes a c
-line_went S line s a b c g r = Tells-then (Arrives Quietly) (RunsLine S line s) (Arrives Quietly) a b c g r (λ x y z h k. Arrives-then Quietly x y z h k.arrives)
+pub line_went : (was : Session) (line : Option Command) (s : Session) (a b c : Option Content) → Tells (Arrives IsRunStep) a b → Tells (RunsLine was line s) b c → Tells (Arrives IsRunStep) a c
+line_went was line s a b c g r = Tells-then (Arrives IsRunStep) (RunsLine was line s) (Arrives IsRunStep) a b c g r (λ x y z h k. Arrives-then IsRunStep x y z h k.arrives)
 
-pub line_fits : (S : MachineState) (line : Option Command) (s : Session) (b c : Option Content) → Tells (RunsLine S line s) b c → IfSome c (FitsSession s)
-line_fits S line s None None r = tt
-line_fits S line s None (Some c) r = absurd r
-line_fits S line s (Some b) None r = absurd r
-line_fits S line s (Some b) (Some c) r = r.fits
+pub line_passes : (was : Session) (line : Option Command) (s : Session) (b c : Option Content) → Tells (RunsLine was line s) b c → Tells (Passes IsRunStep) b c
+line_passes was line s b c r = Tells-weaken (RunsLine was line s) (Passes IsRunStep) b c r (λ x y k. Passes-of IsRunStep x y k.arrives)
+
+pub line_fits : (was : Session) (line : Option Command) (s : Session) (b c : Option Content) → Tells (RunsLine was line s) b c → IfSome c (FitsSession s)
+line_fits was line s None None r = tt
+line_fits was line s None (Some c) r = absurd r
+line_fits was line s (Some b) None r = absurd r
+line_fits was line s (Some b) (Some c) r = r.fits
+
+pub line_rests : (was : Session) (line : Option Command) (s : Session) (a b c : Option Content) → Tells StaysQuiet a b → Tells (RunsLine was line s) b c → Tells StaysQuiet a c
+line_rests was line s a b c g r = Tells-then StaysQuiet (RunsLine was line s) StaysQuiet a b c g r (λ x y z h k q. k.quiet (h q))
+
+-- the call arrived, and where nothing was pending it answered quietly
+abbrev pub Quieted : Content → Content → Type 0
+Quieted old new = Arrives IsRunStep old new × StaysQuiet old new × (IsQuiet old.now.disk → Arrives Quietly old new)
+
+quiet_fails : (x y z : Content) → Quieted x y → AnswersQuietly y z → AnswersQuietly x z
+quiet_fails x y z h k = λ q. Arrives-passes Quietly x y z (h.2 q) (k (h.1 q))
+
+pub fails_quietly : (a b c : Option Content) → Tells Quieted a b → Tells AnswersQuietly b c → Tells AnswersQuietly a c
+fails_quietly a b c g h = Tells-then Quieted AnswersQuietly AnswersQuietly a b c g h quiet_fails
+
+pub quieted_passes : (a b : Option Content) → Tells Quieted a b → Tells AnswersQuietly a b
+quieted_passes a b h = Tells-weaken Quieted AnswersQuietly a b h (λ x y k q. Passes-of Quietly x y (k.2 q))
+
+-- a call that arrived, and whose answers were quiet, arrived quietly
+arrives_from : (R Q : Moment → Moment → Type 0) (x y : Content) → Arrives R x y → Passes Q x y → Arrives Q x y
+arrives_from R Q x y h p = record { since = p.since; moments = p.moments; chain = p.chain; last = h.last ∙ ap (last_moment x.now) (sym (since_of R x y h) ∙ since_is Q x y p) }
+
+quieted_in : (was s : Session) (line : Option Command) (x y z : Content) → Quieted x y → RunsLine was line s y z × AnswersQuietly y z → Quieted x z
+quieted_in was s line x y z h k = (
+  Arrives-then IsRunStep x y z h.0 k.0.arrives,
+  λ q. k.0.quiet (h.1 q),
+  λ q. Arrives-then Quietly x y z (h.2 q) (arrives_from IsRunStep Quietly y z k.0.arrives (k.1 (h.1 q))),
+)
+
+-- where files were unmarked the session is clean still, line after line
+clean_in : (first was s : Session) (line : Option Command) (x y z : Content) → Arrives IsRunStep x y × StaysClean first was x y → RunsLine was line s y z → StaysClean first s x z
+clean_in first was s line x y z h k unmarked begun =
+    let split = since_then IsRunStep IsRunStep x y z (Passes-of IsRunStep x y h.0) (Passes-of IsRunStep y z k.arrives) in
+    let all : AllUnmarked x.now (h.0.since ++ k.arrives.since) = subst (AllUnmarked x.now) split unmarked in
+    k.clean (subst (λ (m : Moment). AllUnmarked m k.arrives.since) (sym h.0.last) (unmarked_rest x.now h.0.since k.arrives.since all))
+    (h.1 (subst (AllUnmarked x.now) (sym (since_of IsRunStep x y h.0)) (unmarked_front x.now h.0.since k.arrives.since all)) begun)
+
+both : (P Q : Content → Content → Type 0) (a b : Option Content) → Tells P a b → Tells Q a b → Tells (λ x y. P x y × Q x y) a b
+both P Q None None p q = tt
+both P Q None (Some y) p q = absurd p
+both P Q (Some x) None p q = absurd p
+both P Q (Some x) (Some y) p q = (p, q)
+
+pub line_quieted : (was s : Session) (line : Option Command) (a b c : Option Content) → Tells Quieted a b → Tells (RunsLine was line s) b c → Tells AnswersQuietly b c → Tells Quieted a c
+line_quieted was s line a b c h r q =
+    Tells-then Quieted (λ x y. RunsLine was line s x y × AnswersQuietly x y) Quieted a b c h (both (RunsLine was line s) AnswersQuietly b c r q) (quieted_in was s line)
+
+pub quieted_rests : (a b : Option Content) → Tells Quieted a b → Tells StaysQuiet a b
+quieted_rests a b h = Tells-weaken Quieted StaysQuiet a b h (λ x y k. k.1)
+
+pub quieted_none : (a : Option Content) → Tells Quieted a a
+quieted_none None = tt
+quieted_none (Some c) = (Arrives-none IsRunStep c, (λ q. q), λ q. Arrives-none Quietly c)
+
+pub clean_none : (s : Session) (a : Option Content) → Tells (StaysClean s s) a a
+clean_none s None = tt
+clean_none s (Some c) = λ unmarked clean. clean
+
+pub line_clean : (first was s : Session) (line : Option Command) (a b c : Option Content) → Tells (Arrives IsRunStep) a b → Tells (StaysClean first was) a b → Tells (RunsLine was line s) b c → Tells (StaysClean first s) a c
+line_clean first was s line a b c g h r =
+    Tells-then (λ x y. Arrives IsRunStep x y × StaysClean first was x y) (RunsLine was line s) (StaysClean first s) a b c (both (Arrives IsRunStep) (StaysClean first was) a b g h) r (clean_in first was s line)
 
 -- ---- by the status
 
-stays_in : (status : ℕ) (r : Result (Unit {0}) Fault) (d : Disk) (old new : Content) → StartsOn d (Some old) (Some new) r → status ≡ status_of_result r → d ≢ [] → (refuses_status status ≡ true) × StaysAsItWas old new
-stays_in status r d old new h e some = let is = h.0 some in (ap refuses_status e ∙ refused r is.0, is.1)
+stays_in : (status : ℕ) (r : Result (Unit {0}) Fault) (i : Image) (old new : Content) → StartsOn i (Some old) (Some new) r → status ≡ status_of_result r → (MayBegin i → ⊥) → (refuses_status status ≡ true) × StaysAsItWas old new
+stays_in status r i old new h e some = let is = h.0 some in (ap refuses_status e ∙ refused r is.0, is.1)
   where
-    refused : (r : Result (Unit {0}) Fault) → refuses_files r ≡ true → refuses_status (status_of_result r) ≡ true
+    refused : (r : Result (Unit {0}) Fault) → refuses_start r ≡ true → refuses_status (status_of_result r) ≡ true
     refused (Ok x) h = absurd (cc)
     refused (Err fault.NotEmpty) h = refl
     refused (Err fault.Site) h = refl
@@ -204,26 +440,12 @@ stays_in status r d old new h e some = let is = h.0 some in (ap refuses_status e
     refused (Err fault.Source) h = absurd (cc)
     refused (Err fault.TooLong) h = absurd (cc)
     refused (Err fault.Draw) h = absurd (cc)
+    refused (Err fault.Spent) h = absurd (cc)
 
 pub starts_with : (status : ℕ) (r : Result (Unit {0}) Fault) (old new : Option Content) → Starts old new r → status ≡ status_of_result r → StartsWith old new status
 starts_with status r None new h e = tt
 starts_with status r (Some old) None h e = tt
-starts_with status r (Some old) (Some new) h e = stays_in status r old.now.disk old new h e
-
--- without a file at the start the run goes on
-goes_on_in : (r : Result (Unit {0}) Fault) (d : Disk) (old new : Content) → d ≡ [] → IfErr r IsOfLines → StartsOn d (Some old) (Some new) r
-goes_on_in r d old new e only = (λ some. absurd (some e), λ is. absurd (not_of_lines r only is))
-  where
-    not_of_lines : (r : Result (Unit {0}) Fault) → IfErr r IsOfLines → r ≡ Err fault.NotEmpty → ⊥
-    not_of_lines r h e = none (subst (λ (x : Result (Unit {0}) Fault). IfErr x IsOfLines) e h)
-      where
-        none : false ≡ true → ⊥
-        none e = cc
-
-pub starts_empty : (files : List FileAt) (r : Result (Unit {0}) Fault) (old mid new : Option Content) → length files ≡ 0 → IsListed old (Ok files) → IfErr r IsOfLines → Starts old new r
-starts_empty files r None mid new none listed only = tt
-starts_empty files r (Some old) mid None none listed only = tt
-starts_empty files r (Some old) mid (Some new) none listed only = goes_on_in r old.now.disk old new (no_files old.now.disk (ap length (sym listed) ∙ none)) only
+starts_with status r (Some old) (Some new) h e = stays_in status r (full old.now.disk) old new h e
 
 pub status_same : (f : Fault) → status_of f ≡ status_of_result (Err f)
 status_same fault.Source = refl
@@ -231,4 +453,40 @@ status_same fault.Site = refl
 status_same fault.Memory = refl
 status_same fault.TooLong = refl
 status_same fault.Draw = refl
+status_same fault.Spent = refl
 status_same fault.NotEmpty = refl
+
+-- the statuses at which each number drawn is the serial of a file
+pub exact_status : (f : Fault) → is_exact_status (status_of f) ≡ is_exact {X = Unit {0}} (Err f)
+exact_status fault.Source = refl
+exact_status fault.Site = refl
+exact_status fault.Memory = refl
+exact_status fault.TooLong = refl
+exact_status fault.Draw = refl
+exact_status fault.Spent = refl
+exact_status fault.NotEmpty = refl
+
+-- status 9 comes of this fault alone
+pub spent_status : (f : Fault) (status : ℕ) → status ≡ status_of f → status ≡ 9 → f ≡ fault.Spent
+spent_status fault.Spent status e nine = refl
+spent_status fault.Source status e nine = absurd (omega (arith, e, nine))
+spent_status fault.Site status e nine = absurd (omega (arith, e, nine))
+spent_status fault.Memory status e nine = absurd (omega (arith, e, nine))
+spent_status fault.TooLong status e nine = absurd (omega (arith, e, nine))
+spent_status fault.Draw status e nine = absurd (omega (arith, e, nine))
+spent_status fault.NotEmpty status e nine = absurd (omega (arith, e, nine))
+
+-- status 10 too
+pub not_begun_in : (f : Fault) (status : ℕ) → status ≡ status_of f → status ≡ 10 → f ≡ fault.NotEmpty
+not_begun_in fault.NotEmpty status e ten = refl
+not_begun_in fault.Source status e ten = absurd (omega (arith, e, ten))
+not_begun_in fault.Site status e ten = absurd (omega (arith, e, ten))
+not_begun_in fault.Memory status e ten = absurd (omega (arith, e, ten))
+not_begun_in fault.TooLong status e ten = absurd (omega (arith, e, ten))
+not_begun_in fault.Draw status e ten = absurd (omega (arith, e, ten))
+not_begun_in fault.Spent status e ten = absurd (omega (arith, e, ten))
+
+pub may_not_begin : (f : Fault) (old new : Option Content) (status : ℕ) → status ≡ status_of f → status ≡ 10 → Starts old new (Err f) → Tells (λ x y. Unit {0}) old new → MayNotBegin old
+may_not_begin f None new status e ten h t = tt
+may_not_begin f (Some old) None status e ten h t = absurd t
+may_not_begin f (Some old) (Some new) status e ten h t = h.1 (ap Err (not_begun_in f status e ten))

@@ -1,10 +1,10 @@
 -- A message that is put into its queue's file.
-use Rattle.std.proofs.Common.{◌≡◌, ℕ, Bool, true, false, cond, eqb, ◌+◌, ◌-◌, ◌*◌, ◌/◌, ◌^◌, ◌<◌, ◌≤◌, List, [], ◌∷◌, ◌++◌, length, take, drop, replicate, Option, Some, None, option_map, refl, sym, ap, ◌∙◌, subst, arith, length-append, append_assoc, get_or, eq-eqb}
+use Rattle.std.proofs.Common.{◌≡◌, ℕ, Bool, true, false, cond, eqb, ◌==◌, ◌+◌, ◌-◌, ◌*◌, ◌/◌, ◌^◌, ◌<◌, ◌≤◌, List, [], ◌∷◌, ◌++◌, length, take, drop, Option, Some, None, option_map, refl, sym, ap, ◌∙◌, subst, arith, length-append, append_assoc, get_or, eq-eqb}
 use Rattle.std.specs.List.{flat_map, AllByRecursion}
 use Rattle.std.proofs.lemmas.Bool.{eqb-true, leb-true, and_parts}
 use Rattle.std.proofs.lemmas.Grind.{flat_map-append}
 use Rattle.std.proofs.lemmas.List.{take_at, drop_at, drop-drop, length-set}
-use Rattle.std.proofs.Math.ListN.{length-replicate, set}
+use Rattle.std.proofs.Math.ListN.{set}
 use Rattle.qls_model.specs.Bytes.{same}
 use Rattle.qls_model.specs.Messages.{with_message}
 use Rattle.qls_model.specs.Machine.{MachineState, queue_named, change_queue}
@@ -13,36 +13,41 @@ use Rattle.qls_model.specs.declared.machine.Message.{Message}
 use Rattle.qls_model.specs.declared.machine.Status.TheVariants.{Ready}
 use Rattle.qls_model.specs.declared.machine.QueueState.{QueueState}
 use Rattle.qls_shape.specs.declared.Version.TheVariants.{Two}
-use Rattle.qls_site.specs.Disk.{Disk, FileState, IsQuiet, file_of, changed, write_at, sync_at, written, all_written}
+use Rattle.qls_site.specs.declared.site.ImageFile.{ImageFile}
+use Rattle.qls_site.specs.Disk.{Disk, FileState, file_of, full, full_file, changed, write_at, sync_at, written, all_written}
 use Rattle.qls_site.specs.Content.{Content, HasRange, InFile}
 use Rattle.qls_site.proofs.DiskLaws.{length-written}
 use Rattle.qls_record.specs.Spelling.{spelling}
 use Rattle.qls_filehdr.specs.Header.{header_spelling}
 use Rattle.qls_filehdr.proofs.HeaderTrip.{legal_parts}
+use Rattle.qls_meaning.specs.Journals.{in_use, is_in_use}
+use Rattle.qls_meaning.specs.Kept.{NothingPending}
+use Rattle.qls_meaning.specs.History.{CleanFile}
+use Rattle.qls_laws.proofs.CleanAreas.{front_sync}
+use Rattle.qls_pool.specs.Pools.{PoolState}
+use Rattle.qls_pool.specs.Files.{IsWholePool}
+use Rattle.qls_pool.proofs.Steps.{header_length}
+use Rattle.qls_pool.proofs.FirstTaken.{write_pool, sync_pool, write_ids, sync_ids}
 use Rattle.qls_top.specs.declared.files.QueueFile.{QueueFile}
 use Rattle.qls_top.specs.Answers.{blocks, blocks_of}
 use Rattle.qls_top.specs.Stored.{only_header, records_of, all_records}
 use Rattle.qls_top.specs.Steps.{block_bytes}
-use Rattle.qls_top.specs.Table.{entry_named, spelled_queue, IsPlainMessage, Keeps, Pairs, HasEntry, Fits}
+use Rattle.qls_top.specs.Table.{entry_named, IsCleanTable, spelled_queue, IsPlainMessage, Keeps, Pairs, HasEntry, Fits}
 use Rattle.qls_top.proofs.Blocks.{length-block, length-all, blocks_of-append, all_records-append, blocks_some}
-use Rattle.qls_top.proofs.NewFile.{header_length, drop-replicate}
-use Rattle.qls_top.proofs.Tables.{named, same-self, differ, queue_named-change_queue, queue_named-name, changed_queue, file_of-id, file_of-written, quiet-written, with_write, with_sync, entry_named-set, entry_named-name}
+use Rattle.qls_top.proofs.Tables.{named, same-self, differ, queue_named-change_queue, queue_named-name, changed_queue, file_of-id, file_of-written, with_write, with_sync, entry_named-set, entry_named-name}
 use Rattle.qls_top.proofs.Fitting.{paired, pairs_there, some_same}
 
--- zeros give way to a block
-pub replaced_zeros : (H B block : List ℕ) (room at k : ℕ) → at ≡ length H + length B → k ≡ length block → k ≤ room
-    → take at (H ++ (B ++ replicate room 0)) ++ block ++ drop (at + k) (H ++ (B ++ replicate room 0)) ≡ H ++ ((B ++ block) ++ replicate (room - k) 0)
-replaced_zeros H B block room at k a size fits =
+-- what lies behind gives way to a block
+pub replaced : (H B block rest : List ℕ) (at k : ℕ) → at ≡ length H + length B → k ≡ length block
+    → take at (H ++ (B ++ rest)) ++ block ++ drop (at + k) (H ++ (B ++ rest)) ≡ H ++ ((B ++ block) ++ drop k rest)
+replaced H B block rest at k a size =
     let X : List ℕ = H ++ B in
-    let Z : List ℕ = replicate room 0 in
-    let joined : H ++ (B ++ Z) ≡ X ++ Z = sym (append_assoc H B Z) in
+    let joined : H ++ (B ++ rest) ≡ X ++ rest = sym (append_assoc H B rest) in
     let long : length X ≡ at = length-append H B ∙ sym a in
-    let front : take at (H ++ (B ++ Z)) ≡ X = ap (take at) joined ∙ take_at X Z at long in
-    let split : room ≡ k + (room - k) = omega arith in
-    let behind : drop (at + k) (H ++ (B ++ Z)) ≡ replicate (room - k) 0 =
-    sym (drop-drop k at (H ++ (B ++ Z))) ∙ ap (drop k) (ap (drop at) joined ∙ drop_at X Z at long) ∙ ap (λ n. drop k (replicate n 0)) split ∙ drop-replicate k (room - k) in
-    ap (λ (t : List ℕ). t ++ block ++ drop (at + k) (H ++ (B ++ Z))) front ∙ ap (λ (t : List ℕ). X ++ block ++ t) behind
-    ∙ append_assoc X block (replicate (room - k) 0) ∙ append_assoc H B (block ++ replicate (room - k) 0) ∙ ap (λ (t : List ℕ). H ++ t) (sym (append_assoc B block (replicate (room - k) 0)))
+    let front : take at (H ++ (B ++ rest)) ≡ X = ap (take at) joined ∙ take_at X rest at long in
+    let behind : drop (at + k) (H ++ (B ++ rest)) ≡ drop k rest = sym (drop-drop k at (H ++ (B ++ rest))) ∙ ap (drop k) (ap (drop at) joined ∙ drop_at X rest at long) in
+    ap (λ (t : List ℕ). t ++ block ++ drop (at + k) (H ++ (B ++ rest))) front ∙ ap (λ (t : List ℕ). X ++ block ++ t) behind
+    ∙ append_assoc X block (drop k rest) ∙ append_assoc H B (block ++ drop k rest) ∙ ap (λ (t : List ℕ). H ++ t) (sym (append_assoc B block (drop k rest)))
 
 plain-append : (ms : List Message) (m : Message) → AllByRecursion (λ m. IsPlainMessage m.number (length m.body)) ms → IsPlainMessage m.number (length m.body)
     → AllByRecursion (λ m. IsPlainMessage m.number (length m.body)) (ms ++ m ∷ [])
@@ -77,11 +82,11 @@ module _ (home : PoolId) (d : Disk) (t : QueueFile) (q : QueueState) (body : Lis
       let kib = (legal_parts (only_header home t.name t.serial) k.legal).kib in
       leb-true home.kib 65536 (and_parts _ _ (and_parts _ _ kib).0).1
 
-  parts : length k.file.stable ≡ 4096 + (4096 * blocks_of q.messages + k.room)
+  parts : length k.file.stable ≡ 4096 + (4096 * blocks_of q.messages + length k.rest)
   parts =
       let header = header_spelling (only_header home t.name t.serial) in
       let records = spelled_queue t.serial q in
-      ap length k.stable ∙ omega (arith, length-append header (records ++ replicate k.room 0), length-append records (replicate k.room 0), header_length (only_header home t.name t.serial) k.legal, length-all t.serial q.messages, length-replicate {A = ℕ} k.room 0)
+      ap length k.stable ∙ omega (arith, length-append header (records ++ k.rest), length-append records k.rest, header_length (only_header home t.name t.serial) k.legal, length-all t.serial q.messages)
 
   file_id : k.file.id ≡ t.id
   file_id = file_of-id t.id d k.file k.there
@@ -99,16 +104,15 @@ module _ (home : PoolId) (d : Disk) (t : QueueFile) (q : QueueState) (body : Lis
   put_stable : put_file.stable ≡ written (record { at = (4096 + t.used * 4096); bytes = block }) k.file.stable
   put_stable = ap (λ ws. all_written (ws ++ (record { at = (4096 + t.used * 4096); bytes = block }) ∷ []) k.file.stable) k.quiet
 
-  put_bytes : put_file.stable ≡ header_spelling (only_header home t.name t.serial) ++ (spelled_queue t.serial put_queue ++ replicate (k.room - length block) 0)
+  put_bytes : put_file.stable ≡ header_spelling (only_header home t.name t.serial) ++ (spelled_queue t.serial put_queue ++ drop (length block) k.rest)
   put_bytes =
       let header = header_spelling (only_header home t.name t.serial) in
       let records = spelled_queue t.serial q in
       let at : (4096 + t.used * 4096) ≡ length header + length records = omega (arith, k.used, header_length (only_header home t.name t.serial) k.legal, length-all t.serial q.messages) in
-      let fits : length block ≤ k.room = omega (arith, parts, k.size, k.used, room, block_size) in
       let grown : spelled_queue t.serial put_queue ≡ records ++ block =
       ap (flat_map (spelling Two t.serial)) (all_records-append q.messages m) ∙ flat_map-append (spelling Two t.serial) (all_records q.messages) (records_of m) in
       put_stable ∙ ap (λ (b : List ℕ). take (4096 + t.used * 4096) b ++ block ++ drop ((4096 + t.used * 4096) + length block) b) k.stable
-      ∙ replaced_zeros header records block k.room (4096 + t.used * 4096) (length block) at refl fits ∙ ap (λ (r : List ℕ). header ++ (r ++ replicate (k.room - length block) 0)) (sym grown)
+      ∙ replaced header records block k.rest (4096 + t.used * 4096) (length block) at refl ∙ ap (λ (r : List ℕ). header ++ (r ++ drop (length block) k.rest)) (sym grown)
 
   pub put_keeps : Keeps home put_disk put_entry put_queue
   put_keeps = record {
@@ -118,7 +122,7 @@ module _ (home : PoolId) (d : Disk) (t : QueueFile) (q : QueueState) (body : Lis
     in_use = k.in_use;
     quiet = refl;
     legal = k.legal;
-    room = k.room - length block;
+    rest = drop (length block) k.rest;
     stable = put_bytes;
     size = ap length put_stable ∙ length-written (record { at = (4096 + t.used * 4096); bytes = block }) k.file.stable range ∙ k.size;
     used = omega (arith, k.used, blocks_of-append q.messages m);
@@ -133,8 +137,8 @@ few_messages home d t q k =
     let records = spelled_queue t.serial q in
     let kib = (legal_parts (only_header home t.name t.serial) k.legal).kib in
     let small : home.kib ≤ 65536 = leb-true home.kib 65536 (and_parts _ _ (and_parts _ _ kib).0).1 in
-    let whole : length k.file.stable ≡ 4096 + (4096 * blocks_of q.messages + k.room) =
-    ap length k.stable ∙ omega (arith, length-append header (records ++ replicate k.room 0), length-append records (replicate k.room 0), header_length (only_header home t.name t.serial) k.legal, length-all t.serial q.messages, length-replicate {A = ℕ} k.room 0) in
+    let whole : length k.file.stable ≡ 4096 + (4096 * blocks_of q.messages + length k.rest) =
+    ap length k.stable ∙ omega (arith, length-append header (records ++ k.rest), length-append records k.rest, header_length (only_header home t.name t.serial) k.legal, length-all t.serial q.messages) in
     omega (arith, k.count, whole, k.size, small)
 
 -- the block lies in the file
@@ -144,9 +148,9 @@ in_file at n (Some g) f e h q =
     let same : g ≡ f = some_same g f (Some g) refl e in
     omega (arith, h, ap (λ (x : FileState). length x.stable) same, ap (λ ws. length (all_written ws g.stable)) (ap (λ (x : FileState). x.pending) same ∙ q))
 
-pub put_range : (home : PoolId) (S : MachineState) (files : List QueueFile) (name : List ℕ) (t : QueueFile) (n b : ℕ) (c : Content) → entry_named name files ≡ Some t → Fits home S files c
+pub put_range : (home : PoolId) (S : MachineState) (pool : PoolState) (files : List QueueFile) (name : List ℕ) (t : QueueFile) (n b : ℕ) (c : Content) → entry_named name files ≡ Some t → Fits home S pool files c
     → n ≡ 4096 * b → t.used + b ≤ home.kib / 4 → HasRange t.id (4096 + t.used * 4096) n c
-put_range home S files name t n b c there fits size room =
+put_range home S pool files name t n b c there fits size room =
     let found = paired home c.now.disk (entry_named name files) (queue_named name S.queues) t there (fits.pairs name) in
     let k = found.2 in
     in_file (4096 + t.used * 4096) n (file_of t.id c.now.disk) k.file k.there (omega (arith, k.size, size, room)) k.quiet
@@ -174,12 +178,22 @@ pub other_after : (j id at : ℕ) (bytes : List ℕ) (d : Disk) → (j ≡ id �
 other_after j id at bytes d h = file_of-written j id at bytes d ∙ other_stays j id at bytes d (file_of j d) refl h
 
 -- a file that is there after a write was there
-was_there : (j id at : ℕ) (bytes : List ℕ) (o : Option FileState) (f : FileState) → option_map (changed id with_sync) (option_map (changed id (with_write at bytes)) o) ≡ Some f → (g : FileState) × (o ≡ Some g)
+was_there : (j id at : ℕ) (bytes : List ℕ) (o : Option FileState) (f : FileState) → option_map (changed id with_sync) (option_map (changed id (with_write at bytes)) o) ≡ Some f → (g : FileState) × (o ≡ Some g) × (g.place ≡ f.place)
 was_there j id at bytes None f e = absurd (cc)
-was_there j id at bytes (Some g) f e = (g, refl)
+was_there j id at bytes (Some g) f e = (g, refl, kept_place id with_sync (λ x. refl) (changed id (with_write at bytes) g) f (some_is e) (kept_place id (with_write at bytes) (λ x. refl) g (changed id (with_write at bytes) g) refl refl))
+  where
+    some_is : Some (changed id with_sync (changed id (with_write at bytes) g)) ≡ Some f → changed id with_sync (changed id (with_write at bytes) g) ≡ f
+    some_is e = cc
 
-module _ (home : PoolId) (S : MachineState) (files : List QueueFile) (c e : Content) (name body : List ℕ) (at : ℕ) (t dflt : QueueFile) (q : QueueState)
-    (fits : Fits home S files c) (in_range : at < length files) (there : get_or files at dflt ≡ t) (entry : entry_named name files ≡ Some t) (first : entry_named name (take at files) ≡ None)
+    kept_place : (id : ℕ) (c : FileState → FileState) → ((x : FileState) → (c x).place ≡ x.place) → (x y : FileState) → changed id c x ≡ y → g.place ≡ x.place → g.place ≡ y.place
+    kept_place id c stays x y e h = h ∙ sym (one (x.id == id)) ∙ ap (λ (z : FileState). z.place) e
+      where
+        one : (b : Bool) → (cond b (c x) x).place ≡ x.place
+        one true = stays x
+        one false = refl
+
+module _ (home : PoolId) (S : MachineState) (pool : PoolState) (files : List QueueFile) (c e : Content) (name body : List ℕ) (at : ℕ) (t dflt : QueueFile) (q : QueueState)
+    (fits : Fits home S pool files c) (in_range : at < length files) (there : get_or files at dflt ≡ t) (entry : entry_named name files ≡ Some t) (first : entry_named name (take at files) ≡ None)
     (queue : queue_named name S.queues ≡ Some q) (k : Keeps home c.now.disk t q) (size : length body ≤ 1048576) (room : t.used + blocks (length body) ≤ home.kib / 4) where
   abbrev next_entry : QueueFile
   next_entry = record t { used = t.used + blocks (length body) }
@@ -247,9 +261,18 @@ module _ (home : PoolId) (S : MachineState) (files : List QueueFile) (c e : Cont
     is = was.is;
   }
 
-  pub fits_put : e.now.disk ≡ next_disk → Fits home (record S { queues = change_queue name change S.queues }) (set files at next_entry) e
+  whole_after : IsWholePool pool next_disk
+  whole_after =
+      let at : ℕ = 4096 + t.used * 4096 in
+      let bytes : List ℕ = block_bytes t.serial (q.last + 1) body in
+      let written : Disk = write_at t.id at bytes c.now.disk in
+      let inside = put_range home S pool files name t (length bytes) (blocks (length body)) c entry fits (length-block t.serial (record { number = q.last + 1; body = body; status = Ready })) room in (
+        sync_ids t.id written (write_ids t.id at bytes c.now.disk fits.pool.0),
+        sync_pool pool [] t.id written (write_pool pool [] t.id at bytes c.now.disk inside fits.pool.1),
+      )
+
+  pub fits_put : e.now.disk ≡ next_disk → Fits home (record S { queues = change_queue name change S.queues }) pool (set files at next_entry) e
   fits_put made = record {
-    quiet = subst IsQuiet (sym made) (quiet-written t.id (4096 + t.used * 4096) (block_bytes t.serial (q.last + 1) body) c.now.disk fits.quiet);
     pairs = λ n.
         subst (λ (disk : Disk). Pairs home disk (entry_named n (set files at next_entry)) (queue_named n (change_queue name change S.queues))) (sym made)
         (subst (λ o. Pairs home next_disk o (queue_named n (change_queue name change S.queues))) (sym (entry_next n))
@@ -258,26 +281,78 @@ module _ (home : PoolId) (S : MachineState) (files : List QueueFile) (c e : Cont
         let before_u = old_found a u x in
         let before_v = old_found b v y in
         fits.distinct a b before_u.0 before_v.0 before_u.1 before_v.1 (before_u.2 ∙ same_id ∙ sym before_v.2);
-    own = λ id f h.
+    pool = subst (λ (disk : Disk). IsWholePool pool disk) (sym made) whole_after;
+    limit = fits.limit;
+    own = λ id f h used.
         let was = was_there id t.id (4096 + t.used * 4096) (block_bytes t.serial (q.last + 1) body) (file_of id c.now.disk) f
         (sym (file_of-written id t.id (4096 + t.used * 4096) (block_bytes t.serial (q.last + 1) body) c.now.disk) ∙ ap (file_of id) (sym made) ∙ h) in
-        let old = fits.own id was.0 was.1 in
+        let old = fits.own id was.0 was.1 (ap is_in_use was.2 ∙ used) in
         goes_on id old (same name old.name) refl;
-    below = λ n u h. let old = old_found n u h in let low = fits.below n old.0 old.1 in omega (arith, low, old.2, length-set files at next_entry);
   }
 
--- a session without a queue fits a disk without files
-pub fits_empty : (home : PoolId) (c : Content) → c.now.disk ≡ [] → Fits home (record { queues = []; xids = [] }) [] c
-fits_empty home c none = record {
-  quiet = subst IsQuiet (sym none) tt;
+  -- the table stays clean
+  clean_next : (n : List ℕ) (u : QueueFile) (b : Bool) → same name n ≡ b → cond b (Some next_entry) (entry_named n files) ≡ Some u → IsCleanTable files c.now.disk → CleanFile (4096 + 4096 * u.used) (file_of u.id next_disk)
+  clean_next n u true s h clean =
+      subst (λ (v : QueueFile). CleanFile (4096 + 4096 * v.used) (file_of v.id next_disk)) (next_is h)
+      (subst (λ k. CleanFile k (file_of t.id next_disk)) behind
+      (front_sync t.id (4096 + t.used * 4096) (block_bytes t.serial (q.last + 1) body) c.now.disk (omega arith) range nothing
+      (subst (λ k. CleanFile k (file_of t.id c.now.disk)) front (clean name t entry))))
+    where
+      next_is : Some next_entry ≡ Some u → next_entry ≡ u
+      next_is e = cc
+
+      size_is : length (block_bytes t.serial (q.last + 1) body) ≡ 4096 * blocks (length body)
+      size_is = length-block t.serial (record { number = q.last + 1; body = body; status = Ready })
+
+      behind : (4096 + t.used * 4096) + length (block_bytes t.serial (q.last + 1) body) ≡ 4096 + 4096 * (t.used + blocks (length body))
+      behind = omega (arith, size_is)
+
+      front : 4096 + 4096 * t.used ≡ 4096 + t.used * 4096
+      front = omega arith
+
+      range : InFile (4096 + t.used * 4096) (length (block_bytes t.serial (q.last + 1) body)) (file_of t.id c.now.disk)
+      range = put_range home S pool files name t (length (block_bytes t.serial (q.last + 1) body)) (blocks (length body)) c entry fits size_is room
+
+      nothing : NothingPending (file_of t.id c.now.disk)
+      nothing = subst NothingPending (sym k.there) k.quiet
+  clean_next n u false s h clean =
+      subst (CleanFile (4096 + 4096 * u.used))
+      (sym (other_after u.id t.id (4096 + t.used * 4096) (block_bytes t.serial (q.last + 1) body) c.now.disk (λ same_id. differ (sym (fits.distinct name n t u entry h (sym same_id)) ∙ s)))) (clean n u h)
+
+  pub clean_put : e.now.disk ≡ next_disk → IsCleanTable files c.now.disk → IsCleanTable (set files at next_entry) e.now.disk
+  clean_put made clean = λ n u h. subst (λ (disk : Disk). CleanFile (4096 + 4096 * u.used) (file_of u.id disk)) (sym made) (clean_next n u (same name n) refl (sym (entry_next n) ∙ h) clean)
+
+-- ---- a disk on which no file is in use
+
+no_cons : {A : Type 0} (x : A) (xs : List A) → x ∷ xs ≡ [] → ⊥
+no_cons x xs e = cc
+
+none_first : (b : Bool) (i : ImageFile) (is : List ImageFile) → cond b (i ∷ is) is ≡ [] → (b ≡ true → ⊥) × (is ≡ [])
+none_first true i is e = absurd (no_cons i is e)
+none_first false i is e = ((λ k. differ (sym k)), e)
+
+found_unused : (g f : FileState) (b : Bool) (rest : Option FileState) → (is_in_use g.place ≡ true → ⊥) → (rest ≡ Some f → ⊥) → is_in_use f.place ≡ true → cond b (Some g) rest ≡ Some f → ⊥
+found_unused g f true rest free none used e = free (ap (λ (x : FileState). is_in_use x.place) (some_same g f (Some g) refl e) ∙ used)
+found_unused g f false rest free none used e = none e
+
+none_used : (d : Disk) (id : ℕ) (f : FileState) → in_use (full d) ≡ [] → file_of id d ≡ Some f → is_in_use f.place ≡ true → ⊥
+none_used [] id f none h used = nothing h
+  where
+    nothing : None ≡ Some f → ⊥
+    nothing e = cc
+none_used (g ∷ d) id f none h used =
+    let both = none_first (is_in_use g.place) (full_file g) (in_use (full d)) none in
+    found_unused g f (g.id == id) (file_of id d) both.0 (λ e. none_used d id f both.1 e used) used h
+
+-- a session without a queue fits it
+pub fits_empty : (home : PoolId) (pool : PoolState) (c : Content) → IsWholePool pool c.now.disk → pool.greatest < 2 ^ 62 → in_use (full c.now.disk) ≡ [] → Fits home (record { queues = []; xids = [] }) pool [] c
+fits_empty home pool c whole limit unused = record {
+  pool = whole;
+  limit = limit;
   pairs = λ n. tt;
   distinct = λ a b t u x y e. absurd (nothing t x);
-  own = λ id f h. absurd (no_file id f (ap (file_of id) (sym none) ∙ h));
-  below = λ n t h. absurd (nothing t h);
+  own = λ id f h used. absurd (none_used c.now.disk id f unused h used);
 }
   where
     nothing : (t : QueueFile) → None ≡ Some t → ⊥
     nothing t e = cc
-
-    no_file : (id : ℕ) (f : FileState) → None ≡ Some f → ⊥
-    no_file id f e = cc

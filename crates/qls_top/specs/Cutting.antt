@@ -43,6 +43,7 @@ is_of_script fault.TooLong = true
 is_of_script fault.Memory = true
 is_of_script fault.Site = false
 is_of_script fault.Draw = false
+is_of_script fault.Spent = false
 is_of_script fault.NotEmpty = false
 
 -- nothing was left, or one byte was read; a read that failed took nothing

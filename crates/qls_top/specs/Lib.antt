@@ -4,6 +4,7 @@ pub mod Cutting
 pub mod Answers
 pub mod Stored
 pub mod Moments
+pub mod Serials
 pub mod Table
 pub mod Causes
 pub mod Steps

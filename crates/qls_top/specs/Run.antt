@@ -1,10 +1,17 @@
 -- What a run answers and leaves, by its status.
-use Rattle.std.specs.Prelude.{◌≡◌, ◌≢◌, ℕ, ◌+◌, ◌≤◌, Bool, true, false, List, [], ◌∷◌, ◌++◌, length, Option, Some, None, Result, Ok, Err, ◌==◌}
+use Rattle.std.specs.Prelude.{◌≡◌, ℕ, ◌+◌, ◌≤◌, Bool, true, false, List, [], ◌∷◌, ◌++◌, length, Option, Some, None, Result, Ok, Err, ◌==◌}
 use Rattle.std.specs.List.{list_any, AllByRecursion}
 use Rattle.qls_model.specs.declared.machine.PoolId.{PoolId}
-use Rattle.qls_model.specs.Machine.{MachineState, empty_state}
-use Rattle.qls_site.specs.Disk.{Disk}
-use Rattle.qls_site.specs.Content.{Content, Moment}
+use Rattle.qls_model.specs.declared.machine.Command.{Command}
+use Rattle.qls_model.specs.declared.machine.Command.TheVariants as command
+use Rattle.qls_model.specs.Machine.{MachineState, empty_state, queue_named}
+use Rattle.qls_shape.specs.Claims.{each}
+use Rattle.qls_site.specs.Disk.{Image, IsQuiet, full}
+use Rattle.qls_site.specs.Content.{Content, Moment, moments_since}
+use Rattle.qls_meaning.specs.Journals.{in_use, empties}
+use Rattle.qls_meaning.specs.Damage.{id_claim, pool_claim}
+use Rattle.qls_meaning.specs.Spent.{new_journal_meets_end}
+use Rattle.qls_pool.specs.Discipline.{TakesInOrder}
 use Rattle.qls_command.specs.Lines.{commands}
 use Rattle.qls_top.specs.declared.fault.Fault.{Fault}
 use Rattle.qls_top.specs.declared.fault.Fault.TheVariants as fault
@@ -14,13 +21,16 @@ use Rattle.qls_top.specs.declared.session.Session.{Session}
 use Rattle.qls_top.specs.Answers.{state_answered, answers_text}
 use Rattle.qls_top.specs.Cutting.{script_limit}
 use Rattle.qls_top.specs.Stored.{IsStored}
+use Rattle.qls_top.specs.Moments.{Chain, AtReplies, UnmarkedSince}
+use Rattle.qls_top.specs.Sessions.{IsCleanSession}
 
 -- ---- a script that was run to its end
 
--- from the state S on every line is answered, and the disk holds the machine's state after all of them
+-- From the state S on every line is answered. Where nothing was pending at the start and the files that came into use were unmarked,
+-- the disk holds the machine's state after all lines
 pub record IsRun (home : PoolId) (S : MachineState) (script : List ℕ) (old new : Content) : Type 0 where
   pub answered : new.now.answered ≡ old.now.answered ++ answers_text home.kib S (commands script)
-  pub stored : IsStored home (state_answered home.kib S (commands script)) new.now.disk
+  pub stored : IsQuiet old.now.disk → UnmarkedSince old new → IsStored home (state_answered home.kib S (commands script)) new.now.disk
 
 -- where site and source tell: the source was read to its end, and all of the script was run
 abbrev pub EndsFrom : PoolId → MachineState → Option Content → Option Content → Option (List ℕ) → Option (List ℕ) → Type 0
@@ -33,8 +43,13 @@ EndsFrom home S (Some old) (Some new) (Some script) None = Unit {0}
 abbrev pub RunsToEnd : PoolId → Option Content → Option Content → Option (List ℕ) → Option (List ℕ) → Type 0
 RunsToEnd home old new script rest = EndsFrom home empty_state old new script rest
 
-abbrev pub EndsScript : Session → Option Content → Option Content → Option (List ℕ) → Option (List ℕ) → Type 0
-EndsScript s old new script rest = EndsFrom s.home s.state old new script rest
+-- a session's own script; its files' free areas were clean
+abbrev pub EndsClean : Session → Option Content → Option Content → Option (List ℕ) → Option (List ℕ) → Type 0
+EndsClean s (Some old) (Some new) (Some script) (Some rest) = IsCleanSession s old → (rest ≡ []) × IsRun s.home s.state script old new
+EndsClean s None new script rest = Unit {0}
+EndsClean s (Some old) None script rest = Unit {0}
+EndsClean s (Some old) (Some new) None rest = Unit {0}
+EndsClean s (Some old) (Some new) (Some script) None = Unit {0}
 
 -- the clause for the job that the words ask for
 abbrev pub ForJob : Option Job → (PoolId → Type 0) → Type 0
@@ -43,12 +58,12 @@ ForJob (Some (Run home)) P = P home
 
 -- ---- a script in the middle
 
--- a part of the script was run: its answers are there, and those to the rest are what is left of the answers to all
+-- some of its commands were run: these are their answers, and this is the machine's state after them
 pub record IsUnderWay (home : PoolId) (S : MachineState) (script rest : List ℕ) (s : Session) (old new : Content) : Type 0 where
-  pub so_far : List ℕ
-  pub answered : new.now.answered ≡ old.now.answered ++ so_far
-  pub answers : answers_text home.kib S (commands script) ≡ so_far ++ answers_text home.kib s.state (commands rest)
-  pub state : state_answered home.kib S (commands script) ≡ state_answered home.kib s.state (commands rest)
+  pub done : List (Option Command)
+  pub split : commands script ≡ done ++ commands rest
+  pub answered : new.now.answered ≡ old.now.answered ++ answers_text home.kib S done
+  pub state : s.state ≡ state_answered home.kib S done
 
 abbrev pub UnderWay : PoolId → MachineState → Option Content → Option Content → Option (List ℕ) → List ℕ → Option (List ℕ) → Session → Type 0
 UnderWay home S (Some old) (Some new) (Some script) waiting (Some left) s = IsUnderWay home S script (waiting ++ left) s old new
@@ -56,6 +71,71 @@ UnderWay home S None new script waiting left s = Unit {0}
 UnderWay home S (Some old) None script waiting left s = Unit {0}
 UnderWay home S (Some old) (Some new) None waiting left s = Unit {0}
 UnderWay home S (Some old) (Some new) (Some script) waiting None s = Unit {0}
+
+-- where the files that came into use were unmarked, the session is as clean as it was
+abbrev pub StaysClean : Session → Session → Content → Content → Type 0
+StaysClean was s old new = UnmarkedSince old new → IsCleanSession was old → IsCleanSession s new
+
+-- ---- a run that ends since no file is left
+
+-- The commands before are answered, the next one makes a queue that isn't there, and for its file there is neither an empty one in the
+-- pool nor an id
+pub record MeetsEnd (home : PoolId) (S : MachineState) (script : List ℕ) (old new : Content) : Type 0 where
+  pub done : List (Option Command)
+  pub name : List ℕ
+  pub rest : List (Option Command)
+  pub split : commands script ≡ done ++ Some (command.Queue name None) ∷ rest
+  pub answered : new.now.answered ≡ old.now.answered ++ answers_text home.kib S done
+  pub accepted : queue_named name (state_answered home.kib S done).queues ≡ None
+  pub spent : new_journal_meets_end home new.now.disk ≡ true
+
+abbrev pub SpentFrom : PoolId → MachineState → Option Content → Option Content → Option (List ℕ) → Type 0
+SpentFrom home S (Some old) (Some new) (Some script) = MeetsEnd home S script old new
+SpentFrom home S None new script = Unit {0}
+SpentFrom home S (Some old) None script = Unit {0}
+SpentFrom home S (Some old) (Some new) None = Unit {0}
+
+abbrev pub EndsSpent : PoolId → Option Content → Option Content → Option (List ℕ) → Type 0
+EndsSpent home old new script = SpentFrom home empty_state old new script
+
+abbrev pub EndsSpentIn : Session → Option Content → Option Content → Option (List ℕ) → Type 0
+EndsSpentIn s old new script = SpentFrom s.home s.state old new script
+
+-- ---- at each reply
+
+-- these are the answers to the first of the commands, and the disk holds the machine's state after them
+pub record IsReplied (home : PoolId) (S : MachineState) (script before : List ℕ) (n : Moment) : Type 0 where
+  pub done : List (Option Command)
+  pub rest : List (Option Command)
+  pub split : commands script ≡ done ++ rest
+  pub answered : n.answered ≡ before ++ answers_text home.kib S done
+  pub stored : IsStored home (state_answered home.kib S done) n.disk
+
+abbrev pub RepliesIn : PoolId → MachineState → List ℕ → Content → Content → Type 0
+RepliesIn home S script old new = Chain (AtReplies (IsReplied home S script old.now.answered)) old.now (moments_since old new)
+
+-- Where nothing was pending at the start and the files that came into use were unmarked: at each moment at which bytes were answered,
+-- from the state S on
+abbrev pub RepliesFrom : PoolId → MachineState → Option Content → Option Content → Option (List ℕ) → Type 0
+RepliesFrom home S (Some old) (Some new) (Some script) = IsQuiet old.now.disk → UnmarkedSince old new → RepliesIn home S script old new
+RepliesFrom home S None new script = Unit {0}
+RepliesFrom home S (Some old) None script = Unit {0}
+RepliesFrom home S (Some old) (Some new) None = Unit {0}
+
+abbrev pub RepliesStored : PoolId → Option Content → Option Content → Option (List ℕ) → Type 0
+RepliesStored home old new script = RepliesFrom home empty_state old new script
+
+-- a session that was clean
+abbrev pub RepliesClean : Session → Option Content → Option Content → Option (List ℕ) → Type 0
+RepliesClean s (Some old) (Some new) (Some script) = IsQuiet old.now.disk → UnmarkedSince old new → IsCleanSession s old → RepliesIn s.home s.state script old new
+RepliesClean s None new script = Unit {0}
+RepliesClean s (Some old) None script = Unit {0}
+RepliesClean s (Some old) (Some new) None = Unit {0}
+
+-- the clause for the job that the words ask for, where they ask for one
+abbrev pub IfJob : Option Job → (PoolId → Type 0) → Type 0
+IfJob None P = Unit {0}
+IfJob (Some (Run home)) P = P home
 
 -- ---- how much of the script was read
 
@@ -75,46 +155,53 @@ is_too_long (Err fault.Source) = false
 is_too_long (Err fault.Site) = false
 is_too_long (Err fault.Memory) = false
 is_too_long (Err fault.Draw) = false
+is_too_long (Err fault.Spent) = false
 is_too_long (Err fault.NotEmpty) = false
 is_too_long (Ok x) = false
 
--- ---- a site with a file
+-- ---- a site that can't be started on
 
--- every moment of the call has this disk
-abbrev pub AllHave : Disk → List Moment → Type 0
-AllHave d ms = AllByRecursion (λ m. m.disk ≡ d) ms
+-- no file is in use, each id is within the limits, and each empty file is one of its pool
+pub record MayBegin (i : Image) : Type 0 where
+  pub unused : in_use i ≡ []
+  pub ids : each id_claim i ≡ Ok tt
+  pub pools : each pool_claim (empties i) ≡ Ok tt
 
--- the listing wasn't empty: no call came after it
+-- every moment is this one
+abbrev pub AllAre : Moment → List Moment → Type 0
+AllAre now ms = AllByRecursion (λ m. m ≡ now) ms
+
+-- no call that changes anything was made
 pub record StaysAsItWas (old new : Content) : Type 0 where
-  pub now : new.now.disk ≡ old.now.disk
-  pub answered : new.now.answered ≡ old.now.answered
+  pub now : new.now ≡ old.now
   pub since : List Moment
   pub moments : new.moments ≡ old.moments ++ since
-  pub same : AllHave old.now.disk since
+  pub same : AllAre old.now since
 
-abbrev pub refuses_files : Result (Unit {0}) Fault → Bool
-refuses_files (Err fault.NotEmpty) = true
-refuses_files (Err fault.Site) = true
-refuses_files (Err fault.Memory) = true
-refuses_files (Err fault.Source) = false
-refuses_files (Err fault.TooLong) = false
-refuses_files (Err fault.Draw) = false
-refuses_files (Ok x) = false
+abbrev pub refuses_start : Result (Unit {0}) Fault → Bool
+refuses_start (Err fault.NotEmpty) = true
+refuses_start (Err fault.Site) = true
+refuses_start (Err fault.Memory) = true
+refuses_start (Err fault.Source) = false
+refuses_start (Err fault.TooLong) = false
+refuses_start (Err fault.Draw) = false
+refuses_start (Err fault.Spent) = false
+refuses_start (Ok x) = false
 
--- with a file, only these answers come, and nothing changes; without one, not the answer that there is one
-abbrev pub StartsOn : Disk → Option Content → Option Content → Result (Unit {0}) Fault → Type 0
-StartsOn d (Some old) (Some new) result = (d ≢ [] → (refuses_files result ≡ true) × StaysAsItWas old new) × (result ≡ Err fault.NotEmpty → d ≢ [])
-StartsOn d None new result = Unit {0}
-StartsOn d (Some old) None result = Unit {0}
+-- on such a site only these answers come, and nothing changes; on another not the answer that it is one
+abbrev pub StartsOn : Image → Option Content → Option Content → Result (Unit {0}) Fault → Type 0
+StartsOn i (Some old) (Some new) result = ((MayBegin i → ⊥) → (refuses_start result ≡ true) × StaysAsItWas old new) × (result ≡ Err fault.NotEmpty → MayBegin i → ⊥)
+StartsOn i None new result = Unit {0}
+StartsOn i (Some old) None result = Unit {0}
 
 abbrev pub Starts : Option Content → Option Content → Result (Unit {0}) Fault → Type 0
 Starts None new result = Unit {0}
-Starts (Some old) new result = StartsOn old.now.disk (Some old) new result
+Starts (Some old) new result = StartsOn (full old.now.disk) (Some old) new result
 
 -- ---- the statuses
 
 abbrev pub is_status : ℕ → Bool
-is_status n = list_any (λ k. k == n) (0 ∷ 2 ∷ 4 ∷ 5 ∷ 6 ∷ 7 ∷ 8 ∷ 10 ∷ [])
+is_status n = list_any (λ k. k == n) (0 ∷ 2 ∷ 4 ∷ 5 ∷ 6 ∷ 7 ∷ 8 ∷ 9 ∷ 10 ∷ [])
 
 abbrev pub status_of_result : Result (Unit {0}) Fault → ℕ
 status_of_result (Ok x) = 0
@@ -123,18 +210,29 @@ status_of_result (Err fault.Site) = 5
 status_of_result (Err fault.Memory) = 6
 status_of_result (Err fault.TooLong) = 7
 status_of_result (Err fault.Draw) = 8
+status_of_result (Err fault.Spent) = 9
 status_of_result (Err fault.NotEmpty) = 10
 
--- by the status: with a file at the start nothing changes, and the answer is that there is one, a fault of the site or want of memory
+-- by the status: on a site that can't be started on nothing changes, and the answer is that, a fault of the site or want of memory
 abbrev pub refuses_status : ℕ → Bool
 refuses_status n = list_any (λ k. k == n) (2 ∷ 5 ∷ 6 ∷ 10 ∷ [])
 
 abbrev pub StartsWith : Option Content → Option Content → ℕ → Type 0
-StartsWith (Some old) (Some new) status = old.now.disk ≢ [] → (refuses_status status ≡ true) × StaysAsItWas old new
+StartsWith (Some old) (Some new) status = (MayBegin (full old.now.disk) → ⊥) → (refuses_status status ≡ true) × StaysAsItWas old new
 StartsWith None new status = Unit {0}
 StartsWith (Some old) None status = Unit {0}
 
--- where the site tells, it had a file
-abbrev pub HadFile : Option Content → Type 0
-HadFile None = Unit {0}
-HadFile (Some old) = old.now.disk ≢ []
+-- where the site tells, it couldn't be started on
+abbrev pub MayNotBegin : Option Content → Type 0
+MayNotBegin None = Unit {0}
+MayNotBegin (Some old) = MayBegin (full old.now.disk) → ⊥
+
+-- the statuses at which each number drawn is the serial of a file
+abbrev pub is_exact_status : ℕ → Bool
+is_exact_status n = list_any (λ k. k == n) (0 ∷ 2 ∷ 4 ∷ 7 ∷ 9 ∷ 10 ∷ [])
+
+-- ---- the order of files
+
+-- from the first moment on, files are made and come into use in the pool's order, with the numbers and epochs that are next
+abbrev pub TakesFilesInOrder : Content → Content → Type 0
+TakesFilesInOrder old new = TakesInOrder [] (record { start = old.now; since = [] }) (moments_since old new)

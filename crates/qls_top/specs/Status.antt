@@ -3,7 +3,11 @@ use Rattle.std.specs.Prelude.{◌≡◌, ℕ, Bool, true, false}
 use Rattle.qls_site.specs.declared.site.SiteError.{SiteError}
 use Rattle.qls_site.specs.declared.site.SiteError.TheVariants as site
 use Rattle.qls_top.specs.declared.fault.Fault.{Fault}
-use Rattle.qls_top.specs.declared.fault.Fault.TheVariants.{Source, Site, Memory, TooLong, Draw, NotEmpty}
+use Rattle.qls_pool.specs.declared.fault.TakeFault.{TakeFault}
+use Rattle.qls_pool.specs.declared.fault.TakeFault.TheVariants as take
+use Rattle.qls_scan.specs.declared.answers.ScanFault.{ScanFault}
+use Rattle.qls_scan.specs.declared.answers.ScanFault.TheVariants as scan
+use Rattle.qls_top.specs.declared.fault.Fault.TheVariants.{Source, Site, Memory, TooLong, Draw, Spent, NotEmpty}
 
 abbrev pub status_of : Fault → ℕ
 status_of Source = 4
@@ -11,11 +15,24 @@ status_of Site = 5
 status_of Memory = 6
 status_of TooLong = 7
 status_of Draw = 8
+status_of Spent = 9
 status_of NotEmpty = 10
 
 abbrev pub fault_of_site : SiteError → Fault
 fault_of_site site.Failed = Site
 fault_of_site site.Memory = Memory
+
+abbrev pub fault_of_take : TakeFault → Fault
+fault_of_take take.Failed = Site
+fault_of_take take.Draw = Draw
+fault_of_take take.Spent = Spent
+fault_of_take take.Memory = Memory
+
+-- a site that is damaged isn't one to start on
+abbrev pub fault_of_scan : ScanFault → Fault
+fault_of_scan scan.Failed = Site
+fault_of_scan scan.Memory = Memory
+fault_of_scan (scan.Damaged file rule) = NotEmpty
 
 -- the faults of a call on the site
 abbrev pub is_of_site : Fault → Bool
@@ -24,6 +41,7 @@ is_of_site Memory = true
 is_of_site Source = false
 is_of_site TooLong = false
 is_of_site Draw = false
+is_of_site Spent = false
 is_of_site NotEmpty = false
 
 abbrev pub IsOfSite : Fault → Type 0
@@ -34,6 +52,7 @@ abbrev pub is_of_line : Fault → Bool
 is_of_line Site = true
 is_of_line Memory = true
 is_of_line Draw = true
+is_of_line Spent = true
 is_of_line Source = false
 is_of_line TooLong = false
 is_of_line NotEmpty = false
@@ -46,6 +65,7 @@ abbrev pub is_of_lines : Fault → Bool
 is_of_lines Site = true
 is_of_lines Memory = true
 is_of_lines Draw = true
+is_of_lines Spent = true
 is_of_lines Source = true
 is_of_lines TooLong = true
 is_of_lines NotEmpty = false

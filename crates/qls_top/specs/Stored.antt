@@ -1,5 +1,5 @@
 -- What the files of a disk hold, while a queue has one file that doesn't grow.
-use Rattle.std.specs.Prelude.{◌≡◌, ℕ, ◌-◌, ◌/◌, ◌%◌, true, false, List, [], ◌∷◌, map, take, replicate, Option, Some, None, Ok}
+use Rattle.std.specs.Prelude.{◌≡◌, ℕ, ◌-◌, ◌/◌, ◌%◌, ◌^◌, ◌<◌, true, false, List, [], ◌∷◌, map, take, replicate, Option, Some, None, Ok}
 use Rattle.std.specs.List.{flat_map}
 use Rattle.qls_model.specs.declared.machine.Message.{Message}
 use Rattle.qls_model.specs.declared.machine.QueueState.{QueueState}
@@ -13,7 +13,8 @@ use Rattle.qls_record.specs.Record.{Record, record_length}
 use Rattle.qls_filehdr.specs.declared.JournalKind.TheVariants.{Queue}
 use Rattle.qls_filehdr.specs.declared.FileHeader.{FileHeader}
 use Rattle.qls_filehdr.specs.Header.{header_of}
-use Rattle.qls_meaning.specs.Journals.{headed}
+use Rattle.qls_meaning.specs.Journals.{headed, is_in_use}
+use Rattle.qls_meaning.specs.Spent.{greatest_id}
 use Rattle.qls_meaning.specs.Reading.{epoch_reading}
 
 -- ---- the records of a queue that only grew
@@ -69,8 +70,9 @@ pub record HasOneFile (home : PoolId) (q : QueueState) (d : Disk) : Type 0 where
   pub there : IsFileOf home q (file_of id d)
   pub only : (other : ℕ) → IsFileOf home q (file_of other d) → other ≡ id
 
--- each queue of the state has exactly one file, and there is no other file
+-- each queue of the state has exactly one file, no other file is in use, and the ids are within their limit
 pub record IsStored (home : PoolId) (S : MachineState) (d : Disk) : Type 0 where
   pub quiet : IsQuiet d
+  pub ids : greatest_id d < 2 ^ 62
   pub queues : (name : List ℕ) (q : QueueState) → queue_named name S.queues ≡ Some q → HasOneFile home q d
-  pub no_other : (id : ℕ) (f : FileState) → file_of id d ≡ Some f → (q : QueueState) × (queue_named q.name S.queues ≡ Some q) × IsFileOf home q (Some f)
+  pub no_other : (id : ℕ) (f : FileState) → file_of id d ≡ Some f → is_in_use f.place ≡ true → (q : QueueState) × (queue_named q.name S.queues ≡ Some q) × IsFileOf home q (Some f)

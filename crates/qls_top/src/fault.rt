@@ -1,5 +1,7 @@
 //! What ends a run before its script is read to the end.
 use qls_model::NoMemory;
+use qls_pool::TakeFault;
+use qls_scan::ScanFault;
 use qls_site::{DrawError, SiteError, SourceError};
 use std::alloc::{AllocError, AllocFailed};
 
@@ -16,7 +18,9 @@ pub enum Fault {
     TooLong,
     /// No serial could be drawn.
     Draw,
-    /// The site held a file at the start.
+    /// A new file was needed, and neither an empty one nor an id was left for it.
+    Spent,
+    /// The site held a file in use at the start, or one that breaks the rules of ids and of empty files.
     NotEmpty,
 }
 
@@ -34,6 +38,7 @@ impl Fault {
             Fault::Memory => 6,
             Fault::TooLong => 7,
             Fault::Draw => 8,
+            Fault::Spent => 9,
             Fault::NotEmpty => 10,
         }
     }
@@ -104,6 +109,37 @@ impl From<SiteError> for Fault {
         match error {
             SiteError::Failed => Fault::Site,
             SiteError::Memory => Fault::Memory,
+        }
+    }
+}
+
+impl From<TakeFault> for Fault {
+    ghost use Rattle.std.specs.Prelude.{◌≡◌};
+    ghost use Rattle.qls_top.specs.Status.{fault_of_take};
+
+    ghost from_gives = { λ error fault. fault ≡ fault_of_take error };
+
+    fn from(error: TakeFault) -> Fault {
+        match error {
+            TakeFault::Failed => Fault::Site,
+            TakeFault::Draw => Fault::Draw,
+            TakeFault::Spent => Fault::Spent,
+            TakeFault::Memory => Fault::Memory,
+        }
+    }
+}
+
+impl From<ScanFault> for Fault {
+    ghost use Rattle.std.specs.Prelude.{◌≡◌};
+    ghost use Rattle.qls_top.specs.Status.{fault_of_scan};
+
+    ghost from_gives = { λ error fault. fault ≡ fault_of_scan error };
+
+    fn from(error: ScanFault) -> Fault {
+        match error {
+            ScanFault::Failed => Fault::Site,
+            ScanFault::Memory => Fault::Memory,
+            ScanFault::Damaged { .. } => Fault::NotEmpty,
         }
     }
 }

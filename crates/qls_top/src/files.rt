@@ -1,8 +1,9 @@
-//! The one file of a queue: made, and written block by block.
+//! The one file of a queue: taken from its pool, and written block by block.
 use crate::fault::Fault;
 use qls_filehdr::{FileHeader, JournalKind};
 use qls_model::{Name, PoolId};
-use qls_site::{Place, Serials, Site};
+use qls_pool::Pool;
+use qls_site::{Serials, Site};
 
 /// The bytes of a block, and of a file header.
 pub(crate) const BLOCK: u64 = 4096;
@@ -20,17 +21,14 @@ pub(crate) struct QueueFile {
     pub(crate) used: u64,
 }
 
-ghost use Rattle.std.specs.Prelude.{◌≡◌, ◌≤◌, IfOk, IfErr, IfSome, IsTrue, Err, length, ℕ, List, ◌%◌, ◌<◌, ◌^◌, true};
-ghost use Rattle.std.specs.List.{flat_map};
-ghost use Rattle.qls_shape.specs.declared.Version.TheVariants.{Two};
-ghost use Rattle.qls_record.specs.Spelling.{spelling};
-ghost use Rattle.qls_filehdr.specs.Limits.{is_legal_header};
-ghost use Rattle.qls_filehdr.specs.Header.{header_spelling};
-ghost use Rattle.qls_site.specs.Content.{Tells, Rose, LacksFile, HasRange};
-ghost use Rattle.qls_top.specs.Stored.{only_header};
-ghost use Rattle.qls_top.specs.Moments.{EndsIn, Passes, Quietly};
-ghost use Rattle.qls_top.specs.Steps.{MakesFile, WritesBlock};
+ghost use Rattle.std.specs.Prelude.{◌≡◌, ◌≤◌, ◌↔◌, IfOk, IfErr, IfSome, IsTrue, Err, length, ℕ, List, ◌%◌, ◌<◌, ◌^◌, true};
 ghost use Rattle.qls_model.specs.Limits.{is_kib, is_partition, is_queue_name};
+ghost use Rattle.qls_site.specs.Content.{Tells, Rose, HasRange};
+ghost use Rattle.qls_pool.specs.Pools.{IsSpent};
+ghost use Rattle.qls_top.specs.Stored.{only_header};
+ghost use Rattle.qls_top.specs.Moments.{EndsIn, Passes, IsSilentStep};
+ghost use Rattle.qls_top.specs.Serials.{DrawsTaken, TakesNone, is_exact};
+ghost use Rattle.qls_top.specs.Steps.{MayStart, MayWrite, TakesFile, WritesBlock};
 ghost use Rattle.qls_top.specs.Status.{IsOfSite, IsOfLine};
 ghost use Rattle.qls_top.specs.Causes.{CausesOfLine};
 
@@ -51,49 +49,35 @@ pub(crate) fn header_of_queue(home: PoolId, name: Name, serial: u64) -> FileHead
     }
 }
 
-/// Draws a serial, and makes the file of a new queue.
+/// Takes the file of a new queue from its pool, gives it the queue's header, and puts it into use.
 pub(crate) fn new_file<S: Site, N: Serials>(
+    pool: &mut Pool,
     home: PoolId,
     name: Name,
-    id: u64,
     site: &mut S,
     serials: &mut N,
 ) -> Result<QueueFile, Fault>
-    requires lacks { IfSome (S.told site.old) (LacksFile id) }
-    requires pool { (is_partition home.part ≡ true) × (is_kib home.kib ≡ true) }
+    requires start { IfSome (S.told site.old) (MayStart name pool.old) }
+    requires home { (is_partition home.part ≡ true) × (is_kib home.kib ≡ true) }
     requires name { IsTrue (is_queue_name name) }
-    ensures file { IfOk result (λ file. (file ≡ record { name = name; id = id; serial = file.serial; used = 0 }) × (file.serial < 2 ^ 64)) }
-    ensures told { Tells (EndsIn (λ file. MakesFile id (only_header home name file.serial)) (Passes Quietly) result) (S.told site.old) (S.told site.new) }
+    ensures file { IfOk result (λ file. (file ≡ record { name = name; id = file.id; serial = file.serial; used = 0 }) × (file.serial < 2 ^ 64)) }
+    ensures told { Tells (EndsIn (λ file. TakesFile home file pool.new) (Passes IsSilentStep) result) (S.told site.old) (S.told site.new) }
+    ensures drawn { DrawsTaken (is_exact result) (S.told site.old) (S.told site.new) (N.drawn serials.old) (N.drawn serials.new) }
+    ensures spent { (result ≡ Err Fault.Spent) ↔ IsSpent home pool.old }
+    ensures no_call { result ≡ Err Fault.Spent → site.new ≡ site.old }
     ensures causes { CausesOfLine (S.faults site.old) (S.faults site.new) (N.faults serials.old) (N.faults serials.new) result }
     ensures only { IfErr result IsOfLine }
 {
-    let serial = serials.draw()?;
-    let header = header_of_queue(home, name, serial);
-    make_file(site, id, &header)?;
+    let blank = pool.blank(site, serials, home)?;
+    let (id, serial) = (blank.id(), blank.serial());
+    let headed = blank.head(site, header_of_queue(home, name, serial))?;
+    headed.link(site)?;
     Ok(QueueFile {
         name,
         id,
         serial,
         used: 0,
     })
-}
-
-/// Makes a file of zeros, writes its header, makes it stable and puts it into use.
-pub(crate) fn make_file<S: Site>(site: &mut S, id: u64, header: &FileHeader) -> Result<(), Fault>
-    requires lacks { IfSome (S.told site.old) (LacksFile id) }
-    requires legal { IsTrue (is_legal_header header.now) }
-    ensures told { Tells (EndsIn (λ _. MakesFile id header.now) (Passes Quietly) result) (S.told site.old) (S.told site.new) }
-    ensures kept { S.faults site.old ≤ S.faults site.new }
-    ensures cause { result ≡ Err Fault.Site → Rose (S.faults site.old) (S.faults site.new) }
-    ensures only { IfErr result IsOfSite }
-{
-    let mut bytes = [0; 4096];
-    header.encode_into(&mut bytes);
-    site.create(id, header.part, header.kib)?;
-    site.write(id, 0, &bytes)?;
-    site.sync(id)?;
-    site.relocate(id, Place::InUse)?;
-    Ok(())
 }
 
 /// Writes a block and makes it stable.
@@ -104,8 +88,10 @@ pub(crate) fn write_block<S: Site>(
     block: &[u8],
 ) -> Result<(), Fault>
     requires range { IfSome (S.told site.old) (HasRange file_id at (length block.now)) }
+    requires used { IfSome (S.told site.old) (MayWrite file_id) }
     requires sectors { (at % 512 ≡ 0) × (length block.now % 512 ≡ 0) × (0 < length block.now) }
-    ensures told { Tells (EndsIn (λ _. WritesBlock file_id at block.now) (Passes Quietly) result) (S.told site.old) (S.told site.new) }
+    ensures told { Tells (EndsIn (λ _. WritesBlock file_id at block.now) (Passes IsSilentStep) result) (S.told site.old) (S.told site.new) }
+    ensures none { Tells TakesNone (S.told site.old) (S.told site.new) }
     ensures kept { S.faults site.old ≤ S.faults site.new }
     ensures cause { result ≡ Err Fault.Site → Rose (S.faults site.old) (S.faults site.new) }
     ensures only { IfErr result IsOfSite }

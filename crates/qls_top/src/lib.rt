@@ -14,14 +14,17 @@ ghost use Rattle.std.specs.String.{string_bytes};
 ghost use Rattle.qls_model.specs.Limits.{is_kib, is_partition};
 ghost use Rattle.qls_site.specs.Content.{Tells, Rose};
 ghost use Rattle.qls_top.specs.Words.{job_of};
-ghost use Rattle.qls_top.specs.Moments.{Passes, Quietly};
-ghost use Rattle.qls_top.specs.Run.{ForJob, RunsToEnd, ReadsBytes, Starts, is_too_long, is_status, StartsWith, HadFile, EndsScript};
+ghost use Rattle.qls_top.specs.Moments.{Passes, AnswersQuietly, IsRunStep};
+ghost use Rattle.qls_top.specs.Serials.{DrawsTaken, is_exact};
+ghost use Rattle.qls_top.specs.Run.{ForJob, RunsToEnd, ReadsBytes, Starts, is_too_long, is_status, StartsWith, MayNotBegin, EndsClean, RepliesStored, RepliesClean, IfJob, EndsSpent, EndsSpentIn, TakesFilesInOrder, is_exact_status};
 ghost use Rattle.qls_top.specs.Sessions.{FitsSession};
 ghost use Rattle.qls_top.specs.Status.{IsOfLines};
 
 pub use answer::{Answer, answer_text};
 pub use fault::Fault;
 use qls_model::PoolId;
+use qls_pool::Pool;
+use qls_scan::scan;
 use qls_site::{Serials, Site, Source};
 use script::Script;
 use session::Session;
@@ -30,8 +33,9 @@ pub use words::{Job, parse_words, status_line};
 
 /// Runs the job that the words ask for, and answers its status.
 ///
-/// For `DIR run PART KIB` the site has no file at the start. Each line of the source is run and answered, before the next
-/// one is read, where nothing fails.
+/// For `DIR run PART KIB` the site has no file in use at the start, and its empty files keep the rules of ids and pools.
+/// Each line of the source is run and answered, before the next one is read, where nothing fails. A queue's file is
+/// taken from the pool of PART and KIB, and is created only where that pool is empty.
 ///
 /// | status | comes |
 /// |---|---|
@@ -42,7 +46,8 @@ pub use words::{Job, parse_words, status_line};
 /// | 6 | memory was wanting |
 /// | 7 | exactly where byte 67,108,865 of the script was read |
 /// | 8 | only where the serials' count of faults rose |
-/// | 10 | the site had a file; nothing changed |
+/// | 9 | a queue was to be made, its pool had no file, and no id below 2^62 was left for one |
+/// | 10 | the site had a file in use, or one whose id or pool isn't within the limits; nothing changed |
 pub fn run<R: Source, S: Site, N: Serials>(
     alloc: Global,
     words: &[String],
@@ -56,13 +61,17 @@ pub fn run<R: Source, S: Site, N: Serials>(
     ensures untouched_source { result ≡ 2 → R.left source.new ≡ R.left source.old }
     ensures untouched_serials { result ≡ 2 → N.drawn serials.new ≡ N.drawn serials.old }
     ensures done { result ≡ 0 → ForJob (job_of (map string_bytes words.now)) (λ home. RunsToEnd home (S.told site.old) (S.told site.new) (R.left source.old) (R.left source.new)) }
-    ensures quiet { Tells (Passes Quietly) (S.told site.old) (S.told site.new) }
+    ensures quiet { Tells AnswersQuietly (S.told site.old) (S.told site.new) }
+    ensures replied { IfJob (job_of (map string_bytes words.now)) (λ home. RepliesStored home (S.told site.old) (S.told site.new) (R.left source.old)) }
+    ensures orderly { Tells TakesFilesInOrder (S.told site.old) (S.told site.new) }
+    ensures drawn { DrawsTaken (is_exact_status result) (S.told site.old) (S.told site.new) (N.drawn serials.old) (N.drawn serials.new) }
+    ensures spent { result ≡ 9 → ForJob (job_of (map string_bytes words.now)) (λ home. EndsSpent home (S.told site.old) (S.told site.new) (R.left source.old)) }
     ensures source { result ≡ 4 → Rose (R.faults source.old) (R.faults source.new) }
     ensures site { result ≡ 5 → Rose (S.faults site.old) (S.faults site.new) }
     ensures serials { result ≡ 8 → Rose (N.faults serials.old) (N.faults serials.new) }
     ensures too_long { ReadsBytes (result == 7) (R.left source.old) (R.left source.new) }
     ensures not_empty { StartsWith (S.told site.old) (S.told site.new) result }
-    ensures had_file { result ≡ 10 → HadFile (S.told site.old) }
+    ensures may_not { result ≡ 10 → MayNotBegin (S.told site.old) }
 {
     match parse_words(words) {
         None => 2,
@@ -73,7 +82,7 @@ pub fn run<R: Source, S: Site, N: Serials>(
     }
 }
 
-/// Runs the script of the source, line by line, on a site without files.
+/// Runs the script of the source, line by line, on a site without a file in use.
 fn run_script<R: Source, S: Site, N: Serials>(
     alloc: Global,
     home: PoolId,
@@ -83,18 +92,23 @@ fn run_script<R: Source, S: Site, N: Serials>(
 ) -> Result<(), Fault>
     requires pool { (is_partition home.part ≡ true) × (is_kib home.kib ≡ true) }
     ensures done { IfOk result (λ _. RunsToEnd home (S.told site.old) (S.told site.new) (R.left source.old) (R.left source.new)) }
-    ensures quiet { Tells (Passes Quietly) (S.told site.old) (S.told site.new) }
+    ensures went { Tells (Passes IsRunStep) (S.told site.old) (S.told site.new) }
+    ensures quiet { Tells AnswersQuietly (S.told site.old) (S.told site.new) }
+    ensures replied { RepliesStored home (S.told site.old) (S.told site.new) (R.left source.old) }
+    ensures drawn { DrawsTaken (is_exact result) (S.told site.old) (S.told site.new) (N.drawn serials.old) (N.drawn serials.new) }
+    ensures spent { result ≡ Err Fault.Spent → EndsSpent home (S.told site.old) (S.told site.new) (R.left source.old) }
     ensures source { result ≡ Err Fault.Source → Rose (R.faults source.old) (R.faults source.new) }
     ensures site { result ≡ Err Fault.Site → Rose (S.faults site.old) (S.faults site.new) }
     ensures serials { result ≡ Err Fault.Draw → Rose (N.faults serials.old) (N.faults serials.new) }
     ensures too_long { ReadsBytes (is_too_long result) (R.left source.old) (R.left source.new) }
     ensures starts { Starts (S.told site.old) (S.told site.new) result }
 {
-    let files = site.list(alloc)?;
-    if files.as_slice().len() > 0 {
+    let found = scan(alloc, site)?;
+    if found.journals.as_slice().len() > 0 {
         return Err(Fault::NotEmpty);
     }
-    let mut session = Session::new(alloc, home);
+    let pool = Pool::open(alloc, found.greatest, &found.empties)?;
+    let mut session = Session::new(alloc, home, pool);
     run_lines(alloc, &mut session, source, site, serials)
 }
 
@@ -108,8 +122,12 @@ fn run_lines<R: Source, S: Site, N: Serials>(
 ) -> Result<(), Fault>
     requires pool { (is_partition session.old.home.part ≡ true) × (is_kib session.old.home.kib ≡ true) }
     requires fits { IfSome (S.told site.old) (FitsSession session.old) }
-    ensures done { IfOk result (λ _. EndsScript session.old (S.told site.old) (S.told site.new) (R.left source.old) (R.left source.new)) }
-    ensures quiet { Tells (Passes Quietly) (S.told site.old) (S.told site.new) }
+    ensures done { IfOk result (λ _. EndsClean session.old (S.told site.old) (S.told site.new) (R.left source.old) (R.left source.new)) }
+    ensures went { Tells (Passes IsRunStep) (S.told site.old) (S.told site.new) }
+    ensures quiet { Tells AnswersQuietly (S.told site.old) (S.told site.new) }
+    ensures replied { RepliesClean session.old (S.told site.old) (S.told site.new) (R.left source.old) }
+    ensures drawn { DrawsTaken (is_exact result) (S.told site.old) (S.told site.new) (N.drawn serials.old) (N.drawn serials.new) }
+    ensures spent { result ≡ Err Fault.Spent → EndsSpentIn session.old (S.told site.old) (S.told site.new) (R.left source.old) }
     ensures source { result ≡ Err Fault.Source → Rose (R.faults source.old) (R.faults source.new) }
     ensures site { result ≡ Err Fault.Site → Rose (S.faults site.old) (S.faults site.new) }
     ensures serials { result ≡ Err Fault.Draw → Rose (N.faults serials.old) (N.faults serials.new) }

@@ -1,18 +1,20 @@
-//! A session: the machine's state, and the file of each of its queues.
+//! A session: the machine's state, the pools of the site, and the file of each queue.
 use crate::answer::{Answer, answer_text};
 use crate::block::spell_block;
 use crate::fault::Fault;
 use crate::files::{BLOCK, QueueFile, new_file, write_block};
 use qls_command::{Parsed, parse_line};
 use qls_model::{Bytes, Command, Name, PoolId, Refusal, Reply, State, step};
+use qls_pool::Pool;
 use qls_site::{Serials, Site};
 use std::alloc::Global;
 
-/// The machine's state, and the file of each of its queues.
+/// The machine's state, the pools of the site, and the file of each queue.
 #[derive(Drop)]
 pub(crate) struct Session {
     pub(crate) alloc: Global,
     pub(crate) home: PoolId,
+    pub(crate) pool: Pool,
     pub(crate) state: State,
     pub(crate) files: Vec<QueueFile>,
 }
@@ -25,10 +27,12 @@ ghost use Rattle.qls_command.specs.Lines.{command_of};
 ghost use Rattle.qls_command.specs.Within.{IsWithin};
 ghost use Rattle.qls_top.specs.Status.{IsOfLine, IsOfSite};
 ghost use Rattle.qls_top.specs.Answers.{built, built_line, blocks, answer_text as answer_bytes};
-ghost use Rattle.qls_top.specs.Moments.{EndsIn, Passes, Quietly};
+ghost use Rattle.qls_top.specs.Moments.{EndsIn, Passes, AddsAnswer, AnswersQuietly, IsRunStep, IsSilentStep};
 ghost use Rattle.qls_top.specs.Table.{entry_named, Fits};
 ghost use Rattle.qls_top.specs.Causes.{CausesOfLine};
-ghost use Rattle.qls_top.specs.Sessions.{FitsSession, RunsCommand, RunsLine, HasQuietDisk};
+ghost use Rattle.qls_pool.specs.Files.{IdsDiffer, OnDisk};
+ghost use Rattle.qls_top.specs.Serials.{DrawsTaken, TakesNone, is_exact};
+ghost use Rattle.qls_top.specs.Sessions.{FitsSession, RunsCommand, RunsLine, RepliesLine, NeedsFile};
 
 /// The place of the name's entry.
 fn find_entry(files: &[QueueFile], name: &Name) -> Option<usize>
@@ -49,10 +53,13 @@ fn blocks_of_body(body: &Bytes) -> u64
     (body.as_slice().len() as u64 + 64).div_ceil(BLOCK)
 }
 
-/// Answers a line, on a site where nothing is pending.
+/// Answers a line.
 fn send_answer<S: Site>(alloc: Global, answer: Answer, site: &mut S) -> Result<(), Fault>
-    requires quiet { IfSome (S.told site.old) HasQuietDisk }
-    ensures told { Tells (EndsIn (λ _. Acts (on_answered (answer_bytes answer))) (Passes Quietly) result) (S.told site.old) (S.told site.new) }
+    requires differ { IfSome (S.told site.old) (OnDisk IdsDiffer) }
+    ensures told { Tells (EndsIn (λ _. Acts (on_answered (answer_bytes answer))) (Passes IsRunStep) result) (S.told site.old) (S.told site.new) }
+    ensures quiet { Tells AnswersQuietly (S.told site.old) (S.told site.new) }
+    ensures adds { Tells (AddsAnswer (answer_bytes answer)) (S.told site.old) (S.told site.new) }
+    ensures none { Tells TakesNone (S.told site.old) (S.told site.new) }
     ensures kept { S.faults site.old ≤ S.faults site.new }
     ensures cause { result ≡ Err Fault.Site → Rose (S.faults site.old) (S.faults site.new) }
     ensures only { IfErr result IsOfSite }
@@ -61,10 +68,13 @@ fn send_answer<S: Site>(alloc: Global, answer: Answer, site: &mut S) -> Result<(
     send_text(text.as_slice(), site)
 }
 
-/// Answers some bytes, on a site where nothing is pending.
+/// Answers some bytes.
 fn send_text<S: Site>(text: &[u8], site: &mut S) -> Result<(), Fault>
-    requires quiet { IfSome (S.told site.old) HasQuietDisk }
-    ensures told { Tells (EndsIn (λ _. Acts (on_answered text.now)) (Passes Quietly) result) (S.told site.old) (S.told site.new) }
+    requires differ { IfSome (S.told site.old) (OnDisk IdsDiffer) }
+    ensures told { Tells (EndsIn (λ _. Acts (on_answered text.now)) (Passes IsRunStep) result) (S.told site.old) (S.told site.new) }
+    ensures quiet { Tells AnswersQuietly (S.told site.old) (S.told site.new) }
+    ensures adds { Tells (AddsAnswer (text.now)) (S.told site.old) (S.told site.new) }
+    ensures none { Tells TakesNone (S.told site.old) (S.told site.new) }
     ensures kept { S.faults site.old ≤ S.faults site.new }
     ensures cause { result ≡ Err Fault.Site → Rose (S.faults site.old) (S.faults site.new) }
     ensures only { IfErr result IsOfSite }
@@ -76,8 +86,9 @@ fn send_text<S: Site>(text: &[u8], site: &mut S) -> Result<(), Fault>
 }
 
 impl Session {
-    /// No queue.
-    pub(crate) fn new(alloc: Global, home: PoolId) -> Session
+    /// No queue, and the pools of a site without a file in use.
+    pub(crate) fn new(alloc: Global, home: PoolId, pool: Pool) -> Session
+        ensures pool { result.pool ≡ pool }
         ensures state { result.state ≡ empty_state }
         ensures files { result.files.items ≡ [] }
         ensures home { result.home ≡ home }
@@ -85,6 +96,7 @@ impl Session {
         Session {
             alloc,
             home,
+            pool,
             state: State::empty(alloc),
             files: Vec::new(alloc),
         }
@@ -102,7 +114,10 @@ impl Session {
         requires command { command.now ≡ Command.Queue name.now None }
         requires name { IsTrue (is_queue_name name.now) }
         requires fits { IfSome (S.told site.old) (FitsSession self.old) }
-        ensures told { Tells (EndsIn (RunsCommand self.old.state (Some command.now) self.new) (Passes Quietly) result) (S.told site.old) (S.told site.new) }
+        ensures told { Tells (EndsIn (RunsCommand self.old (Some command.now) self.new) (Passes IsSilentStep) result) (S.told site.old) (S.told site.new) }
+        ensures drawn { DrawsTaken (is_exact result) (S.told site.old) (S.told site.new) (N.drawn serials.old) (N.drawn serials.new) }
+        ensures spent { result ≡ Err Fault.Spent → NeedsFile self.old (Some command.now) }
+        ensures no_call { result ≡ Err Fault.Spent → site.new ≡ site.old }
         ensures home { self.new.home ≡ self.old.home }
         ensures causes { CausesOfLine (S.faults site.old) (S.faults site.new) (N.faults serials.old) (N.faults serials.new) result }
         ensures only { IfErr result IsOfLine }
@@ -111,8 +126,7 @@ impl Session {
         let Reply::Done = reply else {
             return Ok(Answer::Plain(reply));
         };
-        let id = self.files.as_slice().len() as u64 + 1;
-        let file = new_file(self.home, *name, id, site, serials)?;
+        let file = new_file(&mut self.pool, self.home, *name, site, serials)?;
         self.files.push(file)?;
         Ok(Answer::Plain(Reply::Done))
     }
@@ -129,7 +143,8 @@ impl Session {
         requires command { command.now ≡ Command.Put name.now body.now None }
         requires size { length body.now ≤ 1048576 }
         requires fits { IfSome (S.told site.old) (FitsSession self.old) }
-        ensures told { Tells (EndsIn (RunsCommand self.old.state (Some command.now) self.new) (Passes Quietly) result) (S.told site.old) (S.told site.new) }
+        ensures told { Tells (EndsIn (RunsCommand self.old (Some command.now) self.new) (Passes IsSilentStep) result) (S.told site.old) (S.told site.new) }
+        ensures none { Tells TakesNone (S.told site.old) (S.told site.new) }
         ensures home { self.new.home ≡ self.old.home }
         ensures kept { S.faults site.old ≤ S.faults site.new }
         ensures cause { result ≡ Err Fault.Site → Rose (S.faults site.old) (S.faults site.new) }
@@ -164,7 +179,10 @@ impl Session {
         requires pool { (is_partition self.old.home.part ≡ true) × (is_kib self.old.home.kib ≡ true) }
         requires within { IsWithin command.now }
         requires fits { IfSome (S.told site.old) (FitsSession self.old) }
-        ensures told { Tells (EndsIn (RunsCommand self.old.state (built command.now) self.new) (Passes Quietly) result) (S.told site.old) (S.told site.new) }
+        ensures told { Tells (EndsIn (RunsCommand self.old (built command.now) self.new) (Passes IsSilentStep) result) (S.told site.old) (S.told site.new) }
+        ensures drawn { DrawsTaken (is_exact result) (S.told site.old) (S.told site.new) (N.drawn serials.old) (N.drawn serials.new) }
+        ensures spent { result ≡ Err Fault.Spent → NeedsFile self.old (built command.now) }
+        ensures no_call { result ≡ Err Fault.Spent → site.new ≡ site.old }
         ensures home { self.new.home ≡ self.old.home }
         ensures causes { CausesOfLine (S.faults site.old) (S.faults site.new) (N.faults serials.old) (N.faults serials.new) result }
         ensures only { IfErr result IsOfLine }
@@ -189,7 +207,10 @@ impl Session {
     ) -> Result<Answer, Fault>
         requires pool { (is_partition self.old.home.part ≡ true) × (is_kib self.old.home.kib ≡ true) }
         requires fits { IfSome (S.told site.old) (FitsSession self.old) }
-        ensures told { Tells (EndsIn (RunsCommand self.old.state (built_line (command_of line.now)) self.new) (Passes Quietly) result) (S.told site.old) (S.told site.new) }
+        ensures told { Tells (EndsIn (RunsCommand self.old (built_line (command_of line.now)) self.new) (Passes IsSilentStep) result) (S.told site.old) (S.told site.new) }
+        ensures drawn { DrawsTaken (is_exact result) (S.told site.old) (S.told site.new) (N.drawn serials.old) (N.drawn serials.new) }
+        ensures spent { result ≡ Err Fault.Spent → NeedsFile self.old (built_line (command_of line.now)) }
+        ensures no_call { result ≡ Err Fault.Spent → site.new ≡ site.old }
         ensures home { self.new.home ≡ self.old.home }
         ensures causes { CausesOfLine (S.faults site.old) (S.faults site.new) (N.faults serials.old) (N.faults serials.new) result }
         ensures only { IfErr result IsOfLine }
@@ -209,7 +230,12 @@ impl Session {
     ) -> Result<(), Fault>
         requires pool { (is_partition self.old.home.part ≡ true) × (is_kib self.old.home.kib ≡ true) }
         requires fits { IfSome (S.told site.old) (FitsSession self.old) }
-        ensures told { Tells (EndsIn (λ _. RunsLine self.old.state (command_of line.now) self.new) (Passes Quietly) result) (S.told site.old) (S.told site.new) }
+        ensures told { Tells (EndsIn (λ _. RunsLine self.old (command_of line.now) self.new) (Passes IsRunStep) result) (S.told site.old) (S.told site.new) }
+        ensures quiet { Tells AnswersQuietly (S.told site.old) (S.told site.new) }
+        ensures replied { Tells (RepliesLine self.old (command_of line.now)) (S.told site.old) (S.told site.new) }
+        ensures drawn { DrawsTaken (is_exact result) (S.told site.old) (S.told site.new) (N.drawn serials.old) (N.drawn serials.new) }
+        ensures spent { result ≡ Err Fault.Spent → NeedsFile self.old (built_line (command_of line.now)) }
+        ensures no_call { result ≡ Err Fault.Spent → site.new ≡ site.old }
         ensures home { self.new.home ≡ self.old.home }
         ensures causes { CausesOfLine (S.faults site.old) (S.faults site.new) (N.faults serials.old) (N.faults serials.new) result }
         ensures only { IfErr result IsOfLine }

@@ -31,7 +31,7 @@ pub fn parse_words(words: &[String]) -> Option<Job>
     }
 }
 
-/// The line that a program prints on standard error after this status: one for 2 and for 4 to 8, and for 10.
+/// The line that a program prints on standard error after this status: one for 2 and for 4 to 10.
 pub fn status_line(status: u8) -> Option<&'static str>
     ensures line { MatchOption result (line_of status ≡ None) (λ line. line_of status ≡ Some line.now) }
 {
@@ -42,6 +42,7 @@ pub fn status_line(status: u8) -> Option<&'static str>
         6 => Some("want of memory"),
         7 => Some("script too long"),
         8 => Some("draw fault"),
+        9 => Some("counter spent"),
         10 => Some("store not empty"),
         _ => None,
     }

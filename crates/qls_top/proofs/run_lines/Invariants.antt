@@ -1,16 +1,22 @@
 use Rattle.std.proofs.Common.{◌≡◌, ◌≤◌, true, Ok, IfSome}
 use Rattle.qls_site.specs.Content.{Tells}
 use Rattle.qls_top.specs.Cutting.{Counted, measured, script_limit}
-use Rattle.qls_top.specs.Moments.{Arrives, Quietly}
-use Rattle.qls_top.specs.Run.{UnderWay}
+use Rattle.qls_top.specs.Moments.{Arrives, IsRunStep}
+use Rattle.qls_top.specs.Serials.{DrawsTaken}
+use Rattle.qls_top.specs.Run.{UnderWay, StaysClean, RepliesClean}
 use Rattle.qls_top.specs.Sessions.{FitsSession}
+use Rattle.qls_top.proofs.Lines.{Quieted}
 use Rattle.qls_top.proofs.run_lines.Given as goal
 
 abbrev pub invariant-loop-line : goal.invariant-loop-line
 invariant-loop-line g l = record {
   home : l.session.home ≡ l.fn.session.home;
   fits : IfSome (g.S.Site.told l.site) (FitsSession l.session);
-  went : Tells (Arrives Quietly) (g.S.Site.told l.fn.site) (g.S.Site.told l.site);
+  went : Tells (Arrives IsRunStep) (g.S.Site.told l.fn.site) (g.S.Site.told l.site);
+  quieted : Tells Quieted (g.S.Site.told l.fn.site) (g.S.Site.told l.site);
+  clean : Tells (StaysClean l.fn.session l.session) (g.S.Site.told l.fn.site) (g.S.Site.told l.site);
+  drawn : DrawsTaken true (g.S.Site.told l.fn.site) (g.S.Site.told l.site) (g.N.Serials.drawn l.fn.serials) (g.N.Serials.drawn l.serials);
+  replied : RepliesClean l.fn.session (g.S.Site.told l.fn.site) (g.S.Site.told l.site) (g.R.Source.left l.fn.source);
   under_way : UnderWay l.fn.session.home l.fn.session.state (g.S.Site.told l.fn.site) (g.S.Site.told l.site) (g.R.Source.left l.fn.source) l.script.waiting (g.R.Source.left l.source) l.session;
   counted : Counted script_limit (g.R.Source.left l.fn.source) l.script.budget (g.R.Source.left l.source) (Ok true);
   sources : g.R.Source.faults l.fn.source ≤ g.R.Source.faults l.source;

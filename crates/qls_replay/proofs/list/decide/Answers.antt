@@ -1,8 +1,7 @@
 use Rattle.std.proofs.Common.{◌≡◌, ◌==◌, ◌&&◌, ℕ, List, Bool, true, false, cond, Option, Some, None, is_some, IfOk, refl, ap, sym, subst, ◌∙◌, arith}
 use Rattle.std.specs.Option.{option_map}
 use Rattle.std.specs.Map.{lookup}
-use Rattle.std.specs.BTreeMap.{is_at}
-use Rattle.qls_model.proofs.XidKeys.{xid_cmp_is, xid_cmp}
+use Rattle.qls_model.proofs.XidKeys.{xid_eq_is, xid_eq}
 use Rattle.qls_record.specs.Record.{Record}
 use Rattle.qls_decide.specs.declared.ListState.{ListState}
 use Rattle.qls_decide.specs.declared.ListEntry.{ListEntry}
@@ -14,8 +13,8 @@ use Rattle.qls_replay.proofs.Placing.{looked_up}
 use Rattle.qls_replay.proofs.list.decide.Goals as goal
 use Rattle.qls_replay.proofs.list.decide.Goals.{else-rid-got-via-then-rid-got+else-is_undecided, else-rid-got-via-else-rid-got}
 
-entry_found : (x : List ℕ) (ps : List Pair) (o : Option (ℕ × ListState)) → o ≡ lookup (is_at (xid_cmp x)) ps → entry_of x (entries_of ps) ≡ option_map (λ v. entry_for (x, v)) o
-entry_found x ps o e = looked_up x ps ∙ ap (option_map (λ v. entry_for (x, v))) (sym (e ∙ ap (λ f. lookup (is_at (f x)) ps) xid_cmp_is))
+entry_found : (x : List ℕ) (ps : List Pair) (o : Option (ℕ × ListState)) → o ≡ lookup (xid_eq x) ps → entry_of x (entries_of ps) ≡ option_map (λ v. entry_for (x, v)) o
+entry_found x ps o e = looked_up x ps ∙ ap (option_map (λ v. entry_for (x, v))) (sym (e ∙ ap (λ f. lookup (f x) ps) xid_eq_is))
 
 both : (a b : Bool) → a ≡ true → b ≡ true → (a && b) ≡ true
 both true b e f = f

@@ -1,0 +1,240 @@
+-- A run from its first call: the scan, and the lines that follow it.
+use Rattle.std.proofs.Common.{◌≡◌, inl, inr, ℕ, zero, suc, Bool, true, false, ◌^◌, ◌<◌, List, [], ◌∷◌, ◌++◌, map, length, replicate, Option, Some, None, IfSome, IfOk, IfErr, Result, Ok, Err, refl, sym, ap, ◌∙◌, subst, append-nil, append_assoc}
+use Rattle.std.specs.List.{AllByRecursion}
+use Rattle.qls_model.specs.declared.machine.PoolId.{PoolId}
+use Rattle.qls_model.specs.Machine.{MachineState, empty_state}
+use Rattle.qls_site.specs.Disk.{Disk, Image, IsQuiet, IdsRise, full}
+use Rattle.qls_site.specs.Content.{Content, Moment, OnlyLooks, Tells}
+use Rattle.qls_site.proofs.Told.{Tells-then, Tells-weaken}
+use Rattle.qls_meaning.specs.History.{AllUnmarked, newly_used}
+use Rattle.qls_meaning.specs.Journals.{Headed, in_use}
+use Rattle.qls_pool.specs.Pools.{PoolState, Opens}
+use Rattle.qls_pool.specs.Files.{IdsDiffer, IsListingOf, IsPoolOf}
+use Rattle.qls_filehdr.specs.declared.Rule.{Rule}
+use Rattle.qls_scan.specs.Found.{IsFound, IsFirstDamage}
+use Rattle.qls_scan.specs.declared.answers.Found.{Found}
+use Rattle.qls_scan.specs.declared.answers.ScanFault.{ScanFault}
+use Rattle.qls_scan.specs.declared.answers.ScanFault.TheVariants as scan
+use Rattle.qls_top.specs.declared.fault.Fault.{Fault}
+use Rattle.qls_top.specs.declared.fault.Fault.TheVariants as fault
+use Rattle.qls_top.specs.declared.session.Session.{Session}
+use Rattle.qls_command.specs.Lines.{commands}
+use Rattle.qls_top.specs.declared.files.QueueFile.{QueueFile}
+use Rattle.qls_top.specs.Answers.{answers_text}
+use Rattle.qls_top.specs.Table.{Fits, entry_named}
+use Rattle.qls_top.specs.Status.{IsOfLines, fault_of_scan}
+use Rattle.qls_top.specs.Moments.{Chain, last_moment, Passes, Arrives, Quietly, AnswersQuietly, IsRunStep}
+use Rattle.qls_top.specs.Serials.{TakesNone, DrawsTaken, serials_taken}
+use Rattle.qls_top.specs.Sessions.{FitsSession, IsCleanSession}
+use Rattle.qls_top.specs.Run.{AllAre, StaysAsItWas, MayBegin, StartsOn, Starts, IsRun, EndsClean, RunsToEnd, MeetsEnd, EndsSpent, EndsSpentIn, refuses_start}
+use Rattle.qls_top.proofs.Came.{none_came, none_same}
+use Rattle.qls_top.proofs.Chains.{Arrives-then, Arrives-passes, Passes-of, since_of, since_is, since_then}
+use Rattle.qls_top.proofs.Drawing.{drawn_then, drawn_none}
+use Rattle.qls_top.proofs.Lines.{same_disk, unmarked_rest}
+use Rattle.qls_top.proofs.Putting.{fits_empty}
+use Rattle.qls_top.proofs.Starting.{differ_of, listing_of, may_begin, may_not, used_may_not, unused_of}
+
+-- ---- looks alone
+
+chain_again : (R : Moment → Moment → Type 0) (m : Moment) → R m m → (n : ℕ) → Chain R m (replicate n m)
+chain_again R m r zero = tt
+chain_again R m r (suc n) = (r, chain_again R m r n)
+
+last_again : (m : Moment) (n : ℕ) → last_moment m (replicate n m) ≡ m
+last_again m zero = refl
+last_again m (suc n) = last_again m n
+
+all_again : (m : Moment) (n : ℕ) → AllAre m (replicate n m)
+all_again m zero = tt
+all_again m (suc n) = (refl, all_again m n)
+
+serials_again : (m : Moment) → newly_used m m ≡ [] → (n : ℕ) → serials_taken m (replicate n m) ≡ []
+serials_again m none zero = refl
+serials_again m none (suc n) = ap (λ (fs : List Headed). map (λ f. f.header.serial) fs ++ serials_taken m (replicate n m)) none ∙ serials_again m none n
+
+-- the scan changed nothing
+pub record Looked (old new : Content) : Type 0 where
+  pub now : new.now ≡ old.now
+  pub arrives : Arrives IsRunStep old new
+  pub quietly : Arrives Quietly old new
+  pub none : TakesNone old new
+  pub stays : StaysAsItWas old new
+  pub stays_since : (n : ℕ) × (arrives.since ≡ replicate n old.now)
+
+looked_in : (x y : Content) → IdsRise (full x.now.disk) → OnlyLooks x y → Looked x y
+looked_in x y rise looks =
+    let m : Moment = x.now in
+    let n : ℕ = looks.since.0 in
+    let differ : IdsDiffer m.disk = differ_of (full m.disk) rise in
+    let arrives : Arrives IsRunStep x y = record {
+      since = replicate n m;
+      moments = looks.since.1;
+      chain = chain_again IsRunStep m (same_disk m m differ refl) n;
+      last = looks.now ∙ sym (last_again m n);
+    } in
+    record {
+      now = looks.now;
+      arrives = arrives;
+      quietly = record { since = replicate n m; moments = looks.since.1; chain = chain_again Quietly m (inl refl) n; last = looks.now ∙ sym (last_again m n) };
+      none = ap (serials_taken m) (since_of IsRunStep x y arrives) ∙ serials_again m (none_came m m (none_same m m differ refl)) n;
+      stays = record { now = looks.now; since = replicate n m; moments = looks.since.1; same = all_again m n };
+      stays_since = (n, refl);
+    }
+
+pub looked : (a b : Option Content) → IfSome a (λ c. IdsRise (full c.now.disk)) → Tells OnlyLooks a b → Tells Looked a b
+looked None None rise looks = tt
+looked None (Some y) rise looks = absurd looks
+looked (Some x) None rise looks = absurd looks
+looked (Some x) (Some y) rise looks = looked_in x y rise looks
+
+pub looked_passes : (a b : Option Content) → Tells Looked a b → Tells (Passes IsRunStep) a b
+looked_passes a b h = Tells-weaken Looked (Passes IsRunStep) a b h (λ x y k. Passes-of IsRunStep x y k.arrives)
+
+pub looked_quietly : (a b : Option Content) → Tells Looked a b → Tells AnswersQuietly a b
+looked_quietly a b h = Tells-weaken Looked AnswersQuietly a b h (λ x y k q. Passes-of Quietly x y k.quietly)
+
+pub looked_none : (a b : Option Content) → Tells Looked a b → Tells TakesNone a b
+looked_none a b h = Tells-weaken Looked TakesNone a b h (λ x y k. k.none)
+
+-- and then the lines
+pub lines_pass : (a b c : Option Content) → Tells Looked a b → Tells (Passes IsRunStep) b c → Tells (Passes IsRunStep) a c
+lines_pass a b c h k = Tells-then Looked (Passes IsRunStep) (Passes IsRunStep) a b c h k (λ x y z p q. Arrives-passes IsRunStep x y z p.arrives q)
+
+pub lines_quiet : (a b c : Option Content) → Tells Looked a b → Tells AnswersQuietly b c → Tells AnswersQuietly a c
+lines_quiet a b c h k = Tells-then Looked AnswersQuietly AnswersQuietly a b c h k (λ x y z p q quiet. Arrives-passes Quietly x y z p.quietly (q (subst (λ (m : Moment). IsQuiet m.disk) (sym p.now) quiet)))
+
+pub lines_drawn : (exact : Bool) (a b c : Option Content) (x z : Option (List ℕ)) → Tells Looked a b → Tells (Passes IsRunStep) b c → DrawsTaken exact b c x z → DrawsTaken exact a c x z
+lines_drawn exact a b c x z h k d =
+    drawn_then IsRunStep IsRunStep exact a b c x x z (Tells-weaken Looked (Arrives IsRunStep) a b h (λ x y p. p.arrives)) k (drawn_none true a b x x (looked_none a b h) refl) d
+
+-- ---- a run to its end
+
+unmarked_again : (m : Moment) (n : ℕ) (ys : List Moment) → AllUnmarked m (replicate n m ++ ys) → AllUnmarked m ys
+unmarked_again m n ys h = subst (λ (k : Moment). AllUnmarked k ys) (last_again m n) (unmarked_rest m (replicate n m) ys h)
+
+run_from : (home : PoolId) (S : MachineState) (script : List ℕ) (x y z : Content) → Looked x y → Passes IsRunStep y z → IsRun home S script y z → IsRun home S script x z
+run_from home S script x y z h k run = record {
+  answered = run.answered ∙ ap (λ (m : Moment). m.answered ++ answers_text home.kib S (commands script)) h.now;
+  stored = λ quiet unmarked.
+      run.stored (subst (λ (m : Moment). IsQuiet m.disk) (sym h.now) quiet)
+      (subst (λ (ms : List Moment). AllUnmarked y.now ms) (sym (since_is IsRunStep y z k))
+      (subst (λ (m : Moment). AllUnmarked m k.since) (sym h.arrives.last)
+      (unmarked_rest x.now h.arrives.since k.since (subst (AllUnmarked x.now) (since_then IsRunStep IsRunStep x y z (Passes-of IsRunStep x y h.arrives) k) unmarked))));
+}
+
+pub clean_nothing : (s : Session) (c : Content) → s.files.items ≡ [] → IsCleanSession s c
+clean_nothing s c none = λ name t e. absurd (nothing t (ap (entry_named name) (sym none) ∙ e))
+  where
+    nothing : (t : QueueFile) → None ≡ Some t → ⊥
+    nothing t e = cc
+
+pub if_ok : (P Q : Type 0) (r : Result (Unit {0}) Fault) → IfOk r (λ _. P) → (P → Q) → IfOk r (λ _. Q)
+if_ok P Q (Ok x) h f = f h
+if_ok P Q (Err e) h f = tt
+
+pub run_done : (home : PoolId) (s : Session) (a b c : Option Content) (script rest : Option (List ℕ)) → s.home ≡ home → s.state ≡ empty_state → s.files.items ≡ [] → Tells Looked a b → Tells (Passes IsRunStep) b c
+    → EndsClean s b c script rest → RunsToEnd home a c script rest
+run_done home s None b c script rest at state none h k ends = tt
+run_done home s (Some x) b None script rest at state none h k ends = tt
+run_done home s (Some x) b (Some z) None rest at state none h k ends = tt
+run_done home s (Some x) b (Some z) (Some script) None at state none h k ends = tt
+run_done home s (Some x) None (Some z) (Some script) (Some rest) at state none h k ends = absurd h
+run_done home s (Some x) (Some y) (Some z) (Some script) (Some rest) at state none h k ends =
+    let both = ends (clean_nothing s y none) in (
+      both.0,
+      run_from home empty_state script x y z h k
+          (subst (λ (p : PoolId). IsRun p empty_state script y z) at (subst (λ (S : MachineState). IsRun s.home S script y z) state both.1)),
+    )
+
+-- ---- a run that ends since no file is left
+
+spent_from : (home : PoolId) (S : MachineState) (script : List ℕ) (x y z : Content) → Looked x y → MeetsEnd home S script y z → MeetsEnd home S script x z
+spent_from home S script x y z h e = record {
+  done = e.done;
+  name = e.name;
+  rest = e.rest;
+  split = e.split;
+  answered = e.answered ∙ ap (λ (m : Moment). m.answered ++ answers_text home.kib S e.done) h.now;
+  accepted = e.accepted;
+  spent = e.spent;
+}
+
+pub run_spent : (home : PoolId) (s : Session) (a b c : Option Content) (script : Option (List ℕ)) → s.home ≡ home → s.state ≡ empty_state → Tells Looked a b → EndsSpentIn s b c script → EndsSpent home a c script
+run_spent home s None b c script at state h e = tt
+run_spent home s (Some x) b None script at state h e = tt
+run_spent home s (Some x) b (Some z) None at state h e = tt
+run_spent home s (Some x) None (Some z) (Some script) at state h e = absurd h
+run_spent home s (Some x) (Some y) (Some z) (Some script) at state h e =
+    spent_from home empty_state script x y z h (subst (λ (p : PoolId). MeetsEnd p empty_state script y z) at (subst (λ (S : MachineState). MeetsEnd s.home S script y z) state e))
+
+-- ---- the session at the start
+
+fits_in : (s : Session) (found : Found) (x y : Content) → IdsRise (full x.now.disk) → IsFound (full x.now.disk) found → length found.journals ≡ 0 → found.greatest < 2 ^ 62 → Looked x y
+    → s.state ≡ empty_state → s.files.items ≡ [] → s.pool.greatest ≡ found.greatest → ((d : Disk) → IsListingOf found.greatest found.empties d → IsPoolOf s.pool [] d) → FitsSession s y
+fits_in s found x y rise is none limit h state files greatest opened =
+    let d : Disk = x.now.disk in
+    let unused = unused_of (full d) found is none in
+    let at : y.now.disk ≡ d = ap (λ (m : Moment). m.disk) h.now in
+    subst (λ (S : MachineState). Fits s.home S s.pool s.files.items y) (sym state)
+    (subst (λ (fs : List QueueFile). Fits s.home empty_state s.pool fs y) (sym files)
+    (fits_empty s.home s.pool y
+    (subst (λ (e : Disk). IdsDiffer e × IsPoolOf s.pool [] e) (sym at) (differ_of (full d) rise, opened d (listing_of d found rise is unused)))
+    (subst (λ n. n < 2 ^ 62) (sym greatest) limit) (ap (λ (e : Disk). in_use (full e)) at ∙ unused)))
+
+pub fits_started : (s : Session) (found : Found) (a b : Option Content) → IfSome a (λ c. IdsRise (full c.now.disk)) → IfSome a (λ c. IsFound (full c.now.disk) found) → length found.journals ≡ 0 → found.greatest < 2 ^ 62 → Tells Looked a b
+    → s.state ≡ empty_state → s.files.items ≡ [] → s.pool.greatest ≡ found.greatest → ((d : Disk) → IsListingOf found.greatest found.empties d → IsPoolOf s.pool [] d) → IfSome b (FitsSession s)
+fits_started s found None None rise is none limit h state files greatest opened = tt
+fits_started s found None (Some y) rise is none limit h state files greatest opened = absurd h
+fits_started s found (Some x) None rise is none limit h state files greatest opened = absurd h
+fits_started s found (Some x) (Some y) rise is none limit h state files greatest opened = fits_in s found x y rise is none limit h state files greatest opened
+
+-- ---- by the start
+
+-- the run ended at the scan, with this answer
+stopped_in : (f : Fault) (x y : Content) → Looked x y → refuses_start (Err f) ≡ true → (f ≡ fault.NotEmpty → MayBegin (full x.now.disk) → ⊥) → StartsOn (full x.now.disk) (Some x) (Some y) (Err f)
+stopped_in f x y h refused may = ((λ no. (refused, h.stays)), λ e. may (err_is e))
+  where
+    err_is : ◌≡◌ {A = Result (Unit {0}) Fault} (Err f) (Err fault.NotEmpty) → f ≡ fault.NotEmpty
+    err_is e = cc
+
+scan_refused : (e : ScanFault) → refuses_start (Err (fault_of_scan e)) ≡ true
+scan_refused scan.Failed = refl
+scan_refused scan.Memory = refl
+scan_refused (scan.Damaged file rule) = refl
+
+scan_may_not : (i : Image) (r : Result Found ScanFault) (e : ScanFault) → r ≡ Err e → IsFirstDamage i r → fault_of_scan e ≡ fault.NotEmpty → MayBegin i → ⊥
+scan_may_not i r scan.Failed is damage e = absurd (cc)
+scan_may_not i r scan.Memory is damage e = absurd (cc)
+scan_may_not i r (scan.Damaged file rule) is damage e = may_not i r file rule is damage
+
+-- the scan failed, or found damage
+pub starts_scanned : (f : Fault) (r : Result Found ScanFault) (e : ScanFault) (a b : Option Content) → r ≡ Err e → f ≡ fault_of_scan e → IfSome a (λ c. IsFirstDamage (full c.now.disk) r) → Tells Looked a b → Starts a b (Err f)
+starts_scanned f r e None b is same damage h = tt
+starts_scanned f r e (Some x) None is same damage h = tt
+starts_scanned f r e (Some x) (Some y) is same damage h =
+    stopped_in f x y h (ap (λ (g : Fault). refuses_start (Err g)) same ∙ scan_refused e) (λ k. scan_may_not (full x.now.disk) r e is damage (sym same ∙ k))
+
+-- a file is in use
+pub starts_used : (found : Found) (a b : Option Content) → IfSome a (λ c. IsFound (full c.now.disk) found) → (length found.journals ≡ 0 → ⊥) → Tells Looked a b → Starts a b (Err fault.NotEmpty)
+starts_used found None b is some h = tt
+starts_used found (Some x) None is some h = tt
+starts_used found (Some x) (Some y) is some h = stopped_in fault.NotEmpty x y h refl (λ k. used_may_not (full x.now.disk) found is some)
+
+-- memory was wanting for the pool
+pub starts_wanting : (a b : Option Content) → Tells Looked a b → Starts a b (Err fault.Memory)
+starts_wanting None b h = tt
+starts_wanting (Some x) None h = tt
+starts_wanting (Some x) (Some y) h = stopped_in fault.Memory x y h refl (λ k. absurd (cc))
+
+not_of_lines : (r : Result (Unit {0}) Fault) → IfErr r IsOfLines → r ≡ Err fault.NotEmpty → ⊥
+not_of_lines r h e = none (subst (λ (x : Result (Unit {0}) Fault). IfErr x IsOfLines) e h)
+  where
+    none : false ≡ true → ⊥
+    none e = cc
+
+-- the lines were run
+pub starts_ready : (found : Found) (r : Result (Unit {0}) Fault) (a c : Option Content) → IfSome a (λ c. IsFound (full c.now.disk) found) → length found.journals ≡ 0 → IfErr r IsOfLines → Starts a c r
+starts_ready found r None c is none only = tt
+starts_ready found r (Some x) None is none only = tt
+starts_ready found r (Some x) (Some z) is none only =
+    ((λ no. absurd (no (may_begin (full x.now.disk) _ is.undamaged (unused_of (full x.now.disk) found is none)))), λ e. absurd (not_of_lines r only e))
