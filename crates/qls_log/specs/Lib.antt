@@ -4,5 +4,6 @@ pub mod Taking
 pub mod Writing
 pub mod Spots
 pub mod Standing
+pub mod Steps
 pub mod Appending
 pub mod Reads

@@ -1,0 +1,59 @@
+-- What a log's call does from each moment to the next: only its own journal changes.
+use Rattle.std.specs.Prelude.{◌≡◌, ℕ, ◌+◌, Bool, true, false, ◌&&◌, List, take, Option, Some, None, Result, Ok, Err}
+use Rattle.std.specs.List.{AllByRecursion}
+use Rattle.qls_model.specs.Bytes.{same}
+use Rattle.qls_site.specs.Disk.{FileState, file_of, full_file}
+use Rattle.qls_site.specs.Content.{Moment}
+use Rattle.qls_filehdr.specs.declared.JournalKind.{JournalKind}
+use Rattle.qls_filehdr.specs.declared.FileHeader.{FileHeader}
+use Rattle.qls_filehdr.specs.Header.{header_of}
+use Rattle.qls_meaning.specs.Journals.{headed, is_in_use, is_of, same_kind}
+use Rattle.qls_meaning.specs.Dead.{newest_number}
+use Rattle.qls_meaning.specs.Orderly.{journal_on}
+use Rattle.qls_pool.specs.Discipline.{IsPoolStep}
+use Rattle.qls_pool.specs.Next.{HeadersStay}
+use Rattle.qls_log.specs.declared.opening.Opening.{Opening}
+use Rattle.qls_log.specs.declared.fault.LogError.{LogError}
+use Rattle.qls_log.specs.declared.fault.LogError.TheVariants.{Failed, Draw, Spent, Memory}
+
+-- ---- another journal
+
+abbrev pub is_own : Opening → JournalKind → List ℕ → Bool
+is_own o kind name = same_kind o.kind kind && same o.name name
+
+-- ---- a file of the journal that comes into use
+
+-- a legal header of this journal and this epoch, with the number after that of the journal's newest file
+pub record IsOwnNext (o : Opening) (m : Moment) (g : FileState) (header : FileHeader) : Type 0 where
+  pub legal : header_of (take 4096 g.stable) ≡ Ok header
+  pub kind : header.kind ≡ o.kind
+  pub name : header.name ≡ o.name
+  pub epoch : header.epoch ≡ o.epoch
+  pub number : header.number ≡ newest_number (journal_on m.disk o.kind o.name).files + 1
+
+abbrev pub TakesOwn : Opening → Moment → Option FileState → FileState → Type 0
+TakesOwn o m None g = Unit {0}
+TakesOwn o m (Some f) g = is_in_use f.place ≡ false → is_in_use g.place ≡ true → (header : FileHeader) × IsOwnNext o m g header
+
+-- ---- the step
+
+-- Nothing is answered, and the pool has its order. Files that come into use are the journal's next ones, and headers of files in use
+-- stay. Every other journal is as before, and so is each file in use of another journal
+pub record IsLogStep (o : Opening) (m n : Moment) : Type 0 where
+  pub answered : n.answered ≡ m.answered
+  pub pool : IsPoolStep m n
+  pub next : AllByRecursion (λ g. TakesOwn o m (file_of g.id m.disk) g) n.disk
+  pub headers : HeadersStay m n
+  pub journals : (kind : JournalKind) (name : List ℕ) → is_own o kind name ≡ false → journal_on n.disk kind name ≡ journal_on m.disk kind name
+  pub files : (id : ℕ) (f : FileState) → file_of id m.disk ≡ Some f → is_in_use f.place ≡ true → is_of o.kind o.name (headed (full_file f)) ≡ false
+      → file_of id n.disk ≡ Some f
+
+-- ---- what was drawn
+
+-- one number may be without a file where a call failed, or memory was wanting
+abbrev pub is_exact : {X : Type 0} → Result X LogError → Bool
+is_exact (Ok x) = true
+is_exact (Err Spent) = true
+is_exact (Err Failed) = false
+is_exact (Err Draw) = false
+is_exact (Err Memory) = false
