@@ -2,14 +2,16 @@
 use Rattle.std.proofs.Common.{◌≡◌, inl, inr, ℕ, zero, suc, Bool, true, false, ◌^◌, ◌<◌, List, [], ◌∷◌, ◌++◌, map, length, replicate, Option, Some, None, IfSome, IfOk, IfErr, Result, Ok, Err, refl, sym, ap, ◌∙◌, subst, append-nil, append_assoc}
 use Rattle.std.specs.List.{AllByRecursion}
 use Rattle.qls_model.specs.declared.machine.PoolId.{PoolId}
-use Rattle.qls_model.specs.Machine.{MachineState, empty_state}
-use Rattle.qls_site.specs.Disk.{Disk, Image, IsQuiet, IdsRise, full}
+use Rattle.qls_model.specs.Machine.{MachineState, empty_state, queue_named}
+use Rattle.qls_site.specs.Disk.{Disk, FileState, Image, IsQuiet, IdsRise, full, file_of}
 use Rattle.qls_site.specs.Content.{Content, Moment, OnlyLooks, Tells}
 use Rattle.qls_site.proofs.Told.{Tells-then, Tells-weaken}
-use Rattle.qls_meaning.specs.History.{AllUnmarked, newly_used}
-use Rattle.qls_meaning.specs.Journals.{Headed, in_use}
+use Rattle.qls_meaning.specs.History.{History, AllUnmarked, newly_used, now, next}
+use Rattle.qls_meaning.specs.Journals.{Headed, in_use, is_in_use}
 use Rattle.qls_pool.specs.Pools.{PoolState, Opens}
 use Rattle.qls_pool.specs.Files.{IdsDiffer, IsListingOf, IsPoolOf}
+use Rattle.qls_pool.specs.Discipline.{TakesFile, TakesInOrder}
+use Rattle.qls_pool.proofs.Steps.{all_weaken, all_found}
 use Rattle.qls_filehdr.specs.declared.Rule.{Rule}
 use Rattle.qls_scan.specs.Found.{IsFound, IsFirstDamage}
 use Rattle.qls_scan.specs.declared.answers.Found.{Found}
@@ -19,19 +21,22 @@ use Rattle.qls_top.specs.declared.fault.Fault.{Fault}
 use Rattle.qls_top.specs.declared.fault.Fault.TheVariants as fault
 use Rattle.qls_top.specs.declared.session.Session.{Session}
 use Rattle.qls_command.specs.Lines.{commands}
-use Rattle.qls_top.specs.declared.files.QueueFile.{QueueFile}
+use Rattle.qls_top.specs.declared.queues.QueueLog.{QueueLog}
 use Rattle.qls_top.specs.Answers.{answers_text}
-use Rattle.qls_top.specs.Table.{Fits, entry_named}
+use Rattle.qls_top.specs.Table.{IsTable, Fits, ReadsPair, log_named}
 use Rattle.qls_top.specs.Status.{IsOfLines, fault_of_scan}
-use Rattle.qls_top.specs.Moments.{Chain, last_moment, Passes, Arrives, Quietly, AnswersQuietly, IsRunStep}
-use Rattle.qls_top.specs.Serials.{TakesNone, DrawsTaken, serials_taken}
-use Rattle.qls_top.specs.Sessions.{FitsSession, IsCleanSession}
-use Rattle.qls_top.specs.Run.{AllAre, StaysAsItWas, MayBegin, StartsOn, Starts, IsRun, EndsClean, RunsToEnd, MeetsEnd, EndsSpent, EndsSpentIn, refuses_start}
+use Rattle.qls_pool.specs.Moments.{Chain, Passes, Arrives}
+use Rattle.qls_meaning.specs.History.{last_of}
+use Rattle.qls_top.specs.Moments.{Quietly, AnswersQuietly, IsRunStep}
+use Rattle.qls_pool.specs.Serials.{TakesNone, DrawsTaken, serials_taken}
+use Rattle.qls_top.specs.Sessions.{HasLogs, FitsSession, IsCleanSession}
+use Rattle.qls_top.specs.Run.{AllAre, StaysAsItWas, MayBegin, StartsOn, Starts, TakesFilesInOrder, IsRun, EndsClean, RunsToEnd, MeetsEnd, EndsSpent, EndsSpentIn, refuses_start}
 use Rattle.qls_top.proofs.Came.{none_came, none_same}
-use Rattle.qls_top.proofs.Chains.{Arrives-then, Arrives-passes, Passes-of, since_of, since_is, since_then}
+use Rattle.qls_top.proofs.Chains.{Arrives-then, Arrives-passes, Passes-of, since_of, since_is, since_then, unmarked_rest}
 use Rattle.qls_top.proofs.Drawing.{drawn_then, drawn_none}
-use Rattle.qls_top.proofs.Lines.{same_disk, unmarked_rest}
-use Rattle.qls_top.proofs.Putting.{fits_empty}
+use Rattle.qls_top.proofs.Lines.{same_disk}
+use Rattle.qls_top.proofs.Fitting.{fits_empty}
+use Rattle.qls_top.proofs.InOrder.{in_order}
 use Rattle.qls_top.proofs.Starting.{differ_of, listing_of, may_begin, may_not, used_may_not, unused_of}
 
 -- ---- looks alone
@@ -40,7 +45,7 @@ chain_again : (R : Moment → Moment → Type 0) (m : Moment) → R m m → (n :
 chain_again R m r zero = tt
 chain_again R m r (suc n) = (r, chain_again R m r n)
 
-last_again : (m : Moment) (n : ℕ) → last_moment m (replicate n m) ≡ m
+last_again : (m : Moment) (n : ℕ) → last_of m (replicate n m) ≡ m
 last_again m zero = refl
 last_again m (suc n) = last_again m n
 
@@ -107,6 +112,47 @@ pub lines_drawn : (exact : Bool) (a b c : Option Content) (x z : Option (List �
 lines_drawn exact a b c x z h k d =
     drawn_then IsRunStep IsRunStep exact a b c x x z (Tells-weaken Looked (Arrives IsRunStep) a b h (λ x y p. p.arrives)) k (drawn_none true a b x x (looked_none a b h) refl) d
 
+-- ---- files that come into use
+
+-- where nothing changes none does
+takes_again : (h : History) (m : Moment) → now h ≡ m → IdsDiffer m.disk → (n : ℕ) → TakesInOrder [] h (replicate n m)
+takes_again h m at differ zero = tt
+takes_again h m at differ (suc n) = (
+  subst (λ (k : Moment). AllByRecursion (λ g. TakesFile [] h (file_of g.id k.disk) g) m.disk) (sym at) (all_weaken (λ g. file_of g.id m.disk ≡ Some g) (λ g. TakesFile [] h (file_of g.id m.disk) g) one m.disk (all_found m.disk differ)),
+  takes_again (next h m) m (last_two h.start m h.since) differ n,
+)
+  where
+    last_two : (k l : Moment) (xs : List Moment) → last_of k (xs ++ l ∷ []) ≡ l
+    last_two k l [] = refl
+    last_two k l (x ∷ xs) = last_two x l xs
+
+    not_both : (b : Bool) → b ≡ false → b ≡ true → ⊥
+    not_both b e k = cc
+
+    one : (g : FileState) → file_of g.id m.disk ≡ Some g → TakesFile [] h (file_of g.id m.disk) g
+    one g e = subst (λ (o : Option FileState). TakesFile [] h o g) (sym e) (λ was used. absurd (not_both (is_in_use g.place) was used))
+
+looked_order_in : (x y : Content) → IdsRise (full x.now.disk) → Looked x y → TakesFilesInOrder x y
+looked_order_in x y rise h =
+    subst (λ (ms : List Moment). TakesInOrder [] (record { start = x.now; since = [] }) ms) (sym (since_of IsRunStep x y h.arrives ∙ h.stays_since.1))
+    (takes_again (record { start = x.now; since = [] }) x.now refl (differ_of (full x.now.disk) rise) h.stays_since.0)
+
+pub looked_in_order : (a b : Option Content) → IfSome a (λ c. IdsRise (full c.now.disk)) → Tells Looked a b → Tells TakesFilesInOrder a b
+looked_in_order None None rise h = tt
+looked_in_order None (Some y) rise h = absurd h
+looked_in_order (Some x) None rise h = absurd h
+looked_in_order (Some x) (Some y) rise h = looked_order_in x y rise h
+
+pub lines_in_order : (found : Found) (a b c : Option Content) → IfSome a (λ c. IdsRise (full c.now.disk)) → IfSome a (λ c. IsFound (full c.now.disk) found) → length found.journals ≡ 0 → Tells Looked a b → Tells (Passes IsRunStep) b c
+    → Tells TakesFilesInOrder a c
+lines_in_order found None None None rise is none h k = tt
+lines_in_order found None None (Some z) rise is none h k = absurd k
+lines_in_order found None (Some y) c rise is none h k = absurd h
+lines_in_order found (Some x) None c rise is none h k = absurd h
+lines_in_order found (Some x) (Some y) None rise is none h k = absurd k
+lines_in_order found (Some x) (Some y) (Some z) rise is none h k =
+    in_order x z (differ_of (full x.now.disk) rise) (unused_of (full x.now.disk) found is none) (Arrives-passes IsRunStep x y z h.arrives k)
+
 -- ---- a run to its end
 
 unmarked_again : (m : Moment) (n : ℕ) (ys : List Moment) → AllUnmarked m (replicate n m ++ ys) → AllUnmarked m ys
@@ -114,7 +160,7 @@ unmarked_again m n ys h = subst (λ (k : Moment). AllUnmarked k ys) (last_again 
 
 run_from : (home : PoolId) (S : MachineState) (script : List ℕ) (x y z : Content) → Looked x y → Passes IsRunStep y z → IsRun home S script y z → IsRun home S script x z
 run_from home S script x y z h k run = record {
-  answered = run.answered ∙ ap (λ (m : Moment). m.answered ++ answers_text home.kib S (commands script)) h.now;
+  answered = run.answered ∙ ap (λ (m : Moment). m.answered ++ answers_text S (commands script)) h.now;
   stored = λ quiet unmarked.
       run.stored (subst (λ (m : Moment). IsQuiet m.disk) (sym h.now) quiet)
       (subst (λ (ms : List Moment). AllUnmarked y.now ms) (sym (since_is IsRunStep y z k))
@@ -122,17 +168,14 @@ run_from home S script x y z h k run = record {
       (unmarked_rest x.now h.arrives.since k.since (subst (AllUnmarked x.now) (since_then IsRunStep IsRunStep x y z (Passes-of IsRunStep x y h.arrives) k) unmarked))));
 }
 
-pub clean_nothing : (s : Session) (c : Content) → s.files.items ≡ [] → IsCleanSession s c
-clean_nothing s c none = λ name t e. absurd (nothing t (ap (entry_named name) (sym none) ∙ e))
-  where
-    nothing : (t : QueueFile) → None ≡ Some t → ⊥
-    nothing t e = cc
+pub clean_nothing : (s : Session) (c : Content) → s.queues.items ≡ [] → IsCleanSession s c
+clean_nothing s c none = λ name. subst (λ (queues : List QueueLog). ReadsPair c.now.disk (log_named name queues) (queue_named name s.state.queues)) (sym none) tt
 
 pub if_ok : (P Q : Type 0) (r : Result (Unit {0}) Fault) → IfOk r (λ _. P) → (P → Q) → IfOk r (λ _. Q)
 if_ok P Q (Ok x) h f = f h
 if_ok P Q (Err e) h f = tt
 
-pub run_done : (home : PoolId) (s : Session) (a b c : Option Content) (script rest : Option (List ℕ)) → s.home ≡ home → s.state ≡ empty_state → s.files.items ≡ [] → Tells Looked a b → Tells (Passes IsRunStep) b c
+pub run_done : (home : PoolId) (s : Session) (a b c : Option Content) (script rest : Option (List ℕ)) → s.home ≡ home → s.state ≡ empty_state → s.queues.items ≡ [] → Tells Looked a b → Tells (Passes IsRunStep) b c
     → EndsClean s b c script rest → RunsToEnd home a c script rest
 run_done home s None b c script rest at state none h k ends = tt
 run_done home s (Some x) b None script rest at state none h k ends = tt
@@ -151,12 +194,11 @@ run_done home s (Some x) (Some y) (Some z) (Some script) (Some rest) at state no
 spent_from : (home : PoolId) (S : MachineState) (script : List ℕ) (x y z : Content) → Looked x y → MeetsEnd home S script y z → MeetsEnd home S script x z
 spent_from home S script x y z h e = record {
   done = e.done;
-  name = e.name;
+  next = e.next;
   rest = e.rest;
   split = e.split;
-  answered = e.answered ∙ ap (λ (m : Moment). m.answered ++ answers_text home.kib S e.done) h.now;
-  accepted = e.accepted;
-  spent = e.spent;
+  answered = e.answered ∙ ap (λ (m : Moment). m.answered ++ answers_text S e.done) h.now;
+  meets = e.meets;
 }
 
 pub run_spent : (home : PoolId) (s : Session) (a b c : Option Content) (script : Option (List ℕ)) → s.home ≡ home → s.state ≡ empty_state → Tells Looked a b → EndsSpentIn s b c script → EndsSpent home a c script
@@ -170,23 +212,25 @@ run_spent home s (Some x) (Some y) (Some z) (Some script) at state h e =
 -- ---- the session at the start
 
 fits_in : (s : Session) (found : Found) (x y : Content) → IdsRise (full x.now.disk) → IsFound (full x.now.disk) found → length found.journals ≡ 0 → found.greatest < 2 ^ 62 → Looked x y
-    → s.state ≡ empty_state → s.files.items ≡ [] → s.pool.greatest ≡ found.greatest → ((d : Disk) → IsListingOf found.greatest found.empties d → IsPoolOf s.pool [] d) → FitsSession s y
+    → s.state ≡ empty_state → s.queues.items ≡ [] → s.pool.greatest ≡ found.greatest → ((d : Disk) → IsListingOf found.greatest found.empties d → IsPoolOf s.pool [] d) → FitsSession s y
 fits_in s found x y rise is none limit h state files greatest opened =
     let d : Disk = x.now.disk in
     let unused = unused_of (full d) found is none in
     let at : y.now.disk ≡ d = ap (λ (m : Moment). m.disk) h.now in
-    subst (λ (S : MachineState). Fits s.home S s.pool s.files.items y) (sym state)
-    (subst (λ (fs : List QueueFile). Fits s.home empty_state s.pool fs y) (sym files)
-    (fits_empty s.home s.pool y
+    subst (λ (fs : List QueueLog). Fits s.pool fs y.now.disk) (sym files)
+    (fits_empty s.pool y.now.disk
     (subst (λ (e : Disk). IdsDiffer e × IsPoolOf s.pool [] e) (sym at) (differ_of (full d) rise, opened d (listing_of d found rise is unused)))
-    (subst (λ n. n < 2 ^ 62) (sym greatest) limit) (ap (λ (e : Disk). in_use (full e)) at ∙ unused)))
+    (subst (λ n. n < 2 ^ 62) (sym greatest) limit) (ap (λ (e : Disk). in_use (full e)) at ∙ unused))
 
 pub fits_started : (s : Session) (found : Found) (a b : Option Content) → IfSome a (λ c. IdsRise (full c.now.disk)) → IfSome a (λ c. IsFound (full c.now.disk) found) → length found.journals ≡ 0 → found.greatest < 2 ^ 62 → Tells Looked a b
-    → s.state ≡ empty_state → s.files.items ≡ [] → s.pool.greatest ≡ found.greatest → ((d : Disk) → IsListingOf found.greatest found.empties d → IsPoolOf s.pool [] d) → IfSome b (FitsSession s)
+    → s.state ≡ empty_state → s.queues.items ≡ [] → s.pool.greatest ≡ found.greatest → ((d : Disk) → IsListingOf found.greatest found.empties d → IsPoolOf s.pool [] d) → IfSome b (FitsSession s)
 fits_started s found None None rise is none limit h state files greatest opened = tt
 fits_started s found None (Some y) rise is none limit h state files greatest opened = absurd h
 fits_started s found (Some x) None rise is none limit h state files greatest opened = absurd h
 fits_started s found (Some x) (Some y) rise is none limit h state files greatest opened = fits_in s found x y rise is none limit h state files greatest opened
+
+pub logs_started : (s : Session) → s.state ≡ empty_state → s.queues.items ≡ [] → HasLogs s
+logs_started s state queues = subst (λ (S : MachineState). IsTable s.home S s.queues.items) (sym state) (subst (λ (qs : List QueueLog). IsTable s.home empty_state qs) (sym queues) (λ name. tt))
 
 -- ---- by the start
 

@@ -6,17 +6,16 @@ use Rattle.std.proofs.Math.Seq.{drop-append_seam}
 use Rattle.qls_site.specs.Content.{Moment, Content, Acts, MayAct, Leads, Tells, moments_since}
 use Rattle.qls_site.proofs.Told.{Tells-then, Tells-weaken}
 use Rattle.std.proofs.Common.{IsErr}
-use Rattle.qls_pool.specs.Discipline.{ArePoolSteps, AreFirstTaken, TakesInOrder}
-use Rattle.qls_pool.proofs.FirstTaken.{taking_steps}
-use Rattle.qls_top.specs.Moments.{EndsIn, Chain, last_moment, Passes, Arrives, Quietly, AnswersQuietly, IsRunStep, IsSilentStep}
-use Rattle.qls_top.specs.Run.{TakesFilesInOrder}
+use Rattle.qls_pool.specs.Moments.{EndsIn, Chain, Passes, Arrives}
+use Rattle.qls_meaning.specs.History.{AllUnmarked, last_of}
+use Rattle.qls_top.specs.Moments.{Quietly, AnswersQuietly, IsRunStep, IsSilentStep}
 
 module _ (R : Moment → Moment → Type 0) where
-  pub chain-append : (m : Moment) (xs ys : List Moment) → Chain R m xs → Chain R (last_moment m xs) ys → Chain R m (xs ++ ys)
+  pub chain-append : (m : Moment) (xs ys : List Moment) → Chain R m xs → Chain R (last_of m xs) ys → Chain R m (xs ++ ys)
   chain-append m [] ys h k = k
   chain-append m (x ∷ xs) ys h k = (h.0, chain-append x xs ys h.1 k)
 
-  pub last-append : (m : Moment) (xs ys : List Moment) → last_moment m (xs ++ ys) ≡ last_moment (last_moment m xs) ys
+  pub last-append : (m : Moment) (xs ys : List Moment) → last_of m (xs ++ ys) ≡ last_of (last_of m xs) ys
   last-append m [] ys = refl
   last-append m (x ∷ xs) ys = last-append x xs ys
 
@@ -25,7 +24,7 @@ module _ (R : Moment → Moment → Type 0) where
     since = h.since ++ k.since;
     moments = k.moments ∙ ap (λ ms. ms ++ k.since) h.moments ∙ append_assoc a.moments h.since k.since;
     chain = chain-append a.now h.since k.since h.chain (subst (λ m. Chain R m k.since) h.last k.chain);
-    last = k.last ∙ ap (λ m. last_moment m k.since) h.last ∙ sym (last-append a.now h.since k.since);
+    last = k.last ∙ ap (λ m. last_of m k.since) h.last ∙ sym (last-append a.now h.since k.since);
   }
 
   pub Arrives-passes : (a b c : Content) → Arrives R a b → Passes R b c → Passes R a c
@@ -93,7 +92,7 @@ Arrives-weaken R Q w a b h = record { since = h.since; moments = h.moments; chai
 
 -- a step while a command is at work is one of a run
 pub run_of_silent : (m n : Moment) → IsSilentStep m n → IsRunStep m n
-run_of_silent m n h = record { pool = h.pool; first = h.first }
+run_of_silent m n h = h.step
 
 quiet_of_silent : (m n : Moment) → IsSilentStep m n → Quietly m n
 quiet_of_silent m n h = inl h.answered
@@ -111,7 +110,7 @@ abbrev pub silent_arrives : (a b : Content) → Arrives IsSilentStep a b → Arr
 silent_arrives a b h = Arrives-weaken IsSilentStep IsRunStep run_of_silent a b h
 
 -- nothing is answered while a command is at work
-silent_answered : (m : Moment) (ms : List Moment) → Chain IsSilentStep m ms → (last_moment m ms).answered ≡ m.answered
+silent_answered : (m : Moment) (ms : List Moment) → Chain IsSilentStep m ms → (last_of m ms).answered ≡ m.answered
 silent_answered m [] h = refl
 silent_answered m (n ∷ ns) h = silent_answered n ns h.1 ∙ h.0.answered
 
@@ -119,19 +118,6 @@ pub answers_nothing : (a b : Content) → Arrives IsSilentStep a b → b.now.ans
 answers_nothing a b h = ap (λ (m : Moment). m.answered) h.last ∙ silent_answered a.now h.since h.chain
 
 -- ---- the chain of a run
-
-steps_of : (m : Moment) (ms : List Moment) → Chain IsRunStep m ms → ArePoolSteps m ms × AreFirstTaken m ms
-steps_of m [] h = (tt, tt)
-steps_of m (n ∷ ns) h = let rest = steps_of n ns h.1 in ((h.0.pool, rest.0), (h.0.first, rest.1))
-
-in_order : (a b : Content) → Passes IsRunStep a b → TakesFilesInOrder a b
-in_order a b h =
-    let both = steps_of a.now h.since h.chain in
-    subst (λ (ms : List Moment). TakesInOrder [] (record { start = a.now; since = [] }) ms) (sym (since_is IsRunStep a b h))
-    (taking_steps [] (record { start = a.now; since = [] }) a.now h.since refl both.0 both.1)
-
-pub went_in_order : (a b : Option Content) → Tells (Passes IsRunStep) a b → Tells TakesFilesInOrder a b
-went_in_order a b h = Tells-weaken (Passes IsRunStep) TakesFilesInOrder a b h in_order
 
 pub went_then : (a b c : Option Content) → Tells (Arrives IsRunStep) a b → Tells (Passes IsRunStep) b c → Tells (Passes IsRunStep) a c
 went_then a b c h k = Tells-then (Arrives IsRunStep) (Passes IsRunStep) (Passes IsRunStep) a b c h k (Arrives-passes IsRunStep)
@@ -151,3 +137,13 @@ told_with R P Q None None h p q = tt
 told_with R P Q None (Some y) h p q = absurd h
 told_with R P Q (Some x) None h p q = absurd h
 told_with R P Q (Some x) (Some y) h p q = (h, p, q)
+
+-- ---- unmarked files, call after call
+
+pub unmarked_front : (m : Moment) (xs ys : List Moment) → AllUnmarked m (xs ++ ys) → AllUnmarked m xs
+unmarked_front m [] ys h = tt
+unmarked_front m (n ∷ xs) ys h = (h.0, unmarked_front n xs ys h.1)
+
+pub unmarked_rest : (m : Moment) (xs ys : List Moment) → AllUnmarked m (xs ++ ys) → AllUnmarked (last_of m xs) ys
+unmarked_rest m [] ys h = h
+unmarked_rest m (n ∷ xs) ys h = unmarked_rest n xs ys h.1

@@ -8,32 +8,34 @@ use Rattle.qls_model.specs.declared.machine.Command.TheVariants as command
 use Rattle.qls_model.specs.Machine.{MachineState, queue_named}
 use Rattle.qls_site.specs.declared.site.SiteError.{SiteError}
 use Rattle.qls_site.specs.declared.site.SiteError.TheVariants.{Failed, Memory}
-use Rattle.qls_site.specs.Disk.{Disk, Image, IsQuiet, file_of, full}
+use Rattle.qls_site.specs.Disk.{Disk, Image, IsQuiet, file_of, bytes_at, full}
 use Rattle.qls_site.specs.Content.{Content, Moment, Acts, MayAct, Leads, Tells, on_answered}
 use Rattle.qls_site.proofs.Told.{Tells-then, Tells-weaken}
 use Rattle.qls_meaning.specs.Journals.{Headed}
 use Rattle.qls_meaning.specs.History.{AllUnmarked, newly_used}
-use Rattle.qls_meaning.specs.Spent.{greatest_id, has_empty, last_count, new_journal_meets_end}
-use Rattle.qls_pool.specs.Pools.{PoolState, IsSpent}
 use Rattle.qls_pool.specs.Files.{IdsDiffer, IsWholePool, OnDisk}
-use Rattle.qls_pool.proofs.FirstTaken.{same_is_step, same_takes_none}
-use Rattle.qls_pool.proofs.Taken.{no_empty}
+use Rattle.qls_pool.proofs.FirstTaken.{same_is_step}
 use Rattle.qls_command.specs.Lines.{lines, command_of, command_of_words, words, commands}
-use Rattle.qls_top.specs.declared.answer.Answer.{Answer}
+use Rattle.qls_model.specs.declared.machine.Reply.{Reply}
 use Rattle.qls_top.specs.declared.session.Session.{Session}
 use Rattle.qls_top.specs.declared.fault.Fault.{Fault}
 use Rattle.qls_top.specs.declared.fault.Fault.TheVariants as fault
-use Rattle.qls_top.specs.Answers.{answer_text, answer_line, built_line, state_answered, answers_text}
+use Rattle.qls_command.specs.Texts.{reply_text}
+use Rattle.qls_top.specs.Answers.{answer_line, built_line, state_answered, answers_text}
 use Rattle.qls_top.specs.Cutting.{Cutter, kept_of_line, CutsTold, Counted, script_limit}
-use Rattle.qls_top.specs.Moments.{last_moment, Arrives, Passes, AddsAnswer, Quietly, AnswersQuietly, StaysQuiet, EndsIn, IsRunStep, IsSilentStep}
-use Rattle.qls_top.specs.Serials.{TakesNone, serials_taken, is_exact}
-use Rattle.qls_top.specs.Table.{Pairs, IsCleanTable, entry_named}
-use Rattle.qls_top.specs.Sessions.{FitsSession, IsCleanSession, RunsCommand, RunsLine, NeedsFile}
+use Rattle.qls_pool.specs.Moments.{Arrives, Passes, EndsIn}
+use Rattle.qls_meaning.specs.History.{last_of}
+use Rattle.qls_top.specs.Moments.{AddsAnswer, first_epochs, Quietly, AnswersQuietly, StaysQuiet, IsRunStep, IsSilentStep}
+use Rattle.qls_pool.specs.Serials.{TakesNone, serials_taken}
+use Rattle.qls_top.specs.Serials.{is_exact}
+use Rattle.qls_top.specs.Table.{LogStands, IsCleanTable, log_named}
+use Rattle.qls_top.specs.Ends.{StopsAtEnd, MeetsItsEnd}
+use Rattle.qls_top.specs.Sessions.{HasLogs, FitsSession, IsCleanSession, RunsCommand, RunsLine}
 use Rattle.qls_top.specs.Stored.{IsStored}
 use Rattle.qls_top.specs.Status.{status_of, IsOfLine}
 use Rattle.qls_top.specs.Run.{IsUnderWay, UnderWay, IsRun, EndsClean, StaysClean, MeetsEnd, SpentFrom, MayBegin, MayNotBegin, Starts, StartsOn, StartsWith, StaysAsItWas, refuses_status, refuses_start, status_of_result, is_exact_status, is_too_long, ReadsBytes, ReadBytes}
-use Rattle.qls_top.proofs.Came.{none_came, none_same}
-use Rattle.qls_top.proofs.Chains.{Arrives-none, Arrives-then, Arrives-acts, Arrives-passes, Passes-may, Passes-same, Passes-of, since_is, since_of, since_then, silent_arrives, silent_arrives_quietly, answers_nothing}
+use Rattle.qls_top.proofs.Came.{none_came, none_same, none_next}
+use Rattle.qls_top.proofs.Chains.{Arrives-none, Arrives-then, Arrives-acts, Arrives-passes, Passes-may, Passes-same, Passes-of, since_is, since_of, since_then, silent_arrives, silent_arrives_quietly, answers_nothing, unmarked_front, unmarked_rest}
 use Rattle.qls_top.proofs.Fitting.{stored}
 
 -- ---- the answer
@@ -42,14 +44,18 @@ fits_same : (s : Session) (c e : Content) → e.now.disk ≡ c.now.disk → Fits
 fits_same s c e same f = record {
   pool = subst (IsWholePool s.pool) (sym same) f.pool;
   limit = f.limit;
-  pairs = λ n. subst (λ (d : Disk). Pairs s.home d (entry_named n s.files.items) (queue_named n s.state.queues)) (sym same) (f.pairs n);
-  distinct = f.distinct;
+  logs = λ n. subst (λ (d : Disk). LogStands d (log_named n s.queues.items)) (sym same) (f.logs n);
   own = λ id g h used. f.own id g (ap (file_of id) (sym same) ∙ h) used;
 }
 
 -- a moment that has the disk of the one before
 pub same_disk : (m n : Moment) → IdsDiffer m.disk → n.disk ≡ m.disk → IsRunStep m n
-same_disk m n differ e = record { pool = same_is_step m n differ e; first = same_takes_none m n differ e }
+same_disk m n differ e = record {
+  differ = λ d. subst IdsDiffer (sym e) d;
+  pool = same_is_step m n differ e;
+  next = none_next first_epochs m n (none_same m n differ e);
+  headers = λ id used. ap (λ (d : Disk). take 4096 (bytes_at id d)) e;
+}
 
 none_comes : (m n : Moment) → IdsDiffer m.disk → n.disk ≡ m.disk → newly_used m n ≡ []
 none_comes m n differ e = none_came m n (none_same m n differ e)
@@ -115,52 +121,42 @@ pub of_answers : (bytes : List ℕ) (R : Content → Content → Type 0) → ((x
 of_answers bytes R f a b h = Tells-weaken (Answers bytes) R a b h f
 
 -- an answer's moments, by its result
-pub answer_passes : (answer : Answer) (r : Result (Unit {0}) Fault) (mid new : Option Content) → IfSome mid (OnDisk IdsDiffer) → Tells (EndsIn (λ _. Acts (on_answered (answer_text answer))) (Passes IsRunStep) r) mid new → Tells (Passes IsRunStep) mid new
+pub answer_passes : (answer : Reply) (r : Result (Unit {0}) Fault) (mid new : Option Content) → IfSome mid (OnDisk IdsDiffer) → Tells (EndsIn (λ _. Acts (on_answered (reply_text answer))) (Passes IsRunStep) r) mid new → Tells (Passes IsRunStep) mid new
 answer_passes answer (Ok x) None None differ h = tt
 answer_passes answer (Ok x) None (Some new) differ h = absurd h
 answer_passes answer (Ok x) (Some mid) None differ h = absurd h
-answer_passes answer (Ok x) (Some mid) (Some new) differ h = (answered_ok (answer_text answer) mid new differ h).passes
+answer_passes answer (Ok x) (Some mid) (Some new) differ h = (answered_ok (reply_text answer) mid new differ h).passes
 answer_passes answer (Err f) mid new differ h = h
-
--- ---- unmarked files, call after call
-
-pub unmarked_front : (m : Moment) (xs ys : List Moment) → AllUnmarked m (xs ++ ys) → AllUnmarked m xs
-unmarked_front m [] ys h = tt
-unmarked_front m (n ∷ xs) ys h = (h.0, unmarked_front n xs ys h.1)
-
-pub unmarked_rest : (m : Moment) (xs ys : List Moment) → AllUnmarked m (xs ++ ys) → AllUnmarked (last_moment m xs) ys
-unmarked_rest m [] ys h = h
-unmarked_rest m (n ∷ xs) ys h = unmarked_rest n xs ys h.1
 
 -- ---- a line
 
-module _ (was : Session) (line : Option Command) (s : Session) (answer : Answer) where
-  answered_in : (old mid new : Content) → RunsCommand was (built_line line) s answer old mid → Acts (on_answered (answer_text answer)) mid new → RunsLine was line s old new
+module _ (was : Session) (line : Option Command) (s : Session) (answer : Reply) where
+  answered_in : (old mid new : Content) → RunsCommand was (built_line line) s answer old mid → Acts (on_answered (reply_text answer)) mid new → RunsLine was line s old new
   answered_in old mid new r acts =
       let now = ap (λ (c : Content). c.now) acts in
       let disk : new.now.disk ≡ mid.now.disk = ap (λ (m : Moment). m.disk) now in
       let one : Arrives IsRunStep mid new =
-      Arrives-acts IsRunStep (on_answered (answer_text answer)) mid new (same_disk mid.now (on_answered (answer_text answer) mid.now) r.fits.pool.0 refl) acts in
+      Arrives-acts IsRunStep (on_answered (reply_text answer)) mid new (same_disk mid.now (on_answered (reply_text answer) mid.now) r.fits.pool.0 refl) acts in
       record {
         state = ap (λ p. p.0) r.stepped;
         arrives = Arrives-then IsRunStep old mid new (silent_arrives old mid r.arrives) one;
         quiet = λ q. subst IsQuiet (sym disk) (r.quiet q);
-        answered = ap (λ (m : Moment). m.answered) now ∙ ap (λ (a : List ℕ). a ++ answer_text answer) (answers_nothing old mid r.arrives) ∙ ap (λ p. old.now.answered ++ answer_text p.1) r.stepped;
+        answered = ap (λ (m : Moment). m.answered) now ∙ ap (λ (a : List ℕ). a ++ reply_text answer) (answers_nothing old mid r.arrives) ∙ ap (λ p. old.now.answered ++ reply_text p.1) r.stepped;
         fits = fits_same s mid new disk r.fits;
         clean = λ unmarked clean.
-            subst (λ (d : Disk). IsCleanTable s.files.items d) (sym disk) (r.clean (unmarked_front old.now r.arrives.since (on_answered (answer_text answer) mid.now ∷ []) unmarked) clean);
+            subst (λ (d : Disk). IsCleanTable s.state s.queues.items d) (sym disk) (r.clean (unmarked_front old.now r.arrives.since (on_answered (reply_text answer) mid.now ∷ []) unmarked) clean);
       }
 
   -- by the result of the answer
   ended_in : (r : Result (Unit {0}) Fault) (old mid new : Content) → RunsCommand was (built_line line) s answer old mid
-      → EndsIn (λ _. Acts (on_answered (answer_text answer))) (Passes IsRunStep) r mid new → EndsIn (λ _. RunsLine was line s) (Passes IsRunStep) r old new
+      → EndsIn (λ _. Acts (on_answered (reply_text answer))) (Passes IsRunStep) r mid new → EndsIn (λ _. RunsLine was line s) (Passes IsRunStep) r old new
   ended_in (Ok x) old mid new r h = answered_in old mid new r h
   ended_in (Err f) old mid new r h = Arrives-passes IsRunStep old mid new (silent_arrives old mid r.arrives) h
 
   pub line_ended : (r : Result (Unit {0}) Fault) (old mid new : Option Content) → Tells (RunsCommand was (built_line line) s answer) old mid
-      → Tells (EndsIn (λ _. Acts (on_answered (answer_text answer))) (Passes IsRunStep) r) mid new → Tells (EndsIn (λ _. RunsLine was line s) (Passes IsRunStep) r) old new
+      → Tells (EndsIn (λ _. Acts (on_answered (reply_text answer))) (Passes IsRunStep) r) mid new → Tells (EndsIn (λ _. RunsLine was line s) (Passes IsRunStep) r) old new
   line_ended r old mid new a b =
-      Tells-then (RunsCommand was (built_line line) s answer) (EndsIn (λ _. Acts (on_answered (answer_text answer))) (Passes IsRunStep) r) (EndsIn (λ _. RunsLine was line s) (Passes IsRunStep) r) old mid new a b (ended_in r)
+      Tells-then (RunsCommand was (built_line line) s answer) (EndsIn (λ _. Acts (on_answered (reply_text answer))) (Passes IsRunStep) r) (EndsIn (λ _. RunsLine was line s) (Passes IsRunStep) r) old mid new a b (ended_in r)
 
   quiet_in : (old mid new : Content) → RunsCommand was (built_line line) s answer old mid → AnswersQuietly mid new → AnswersQuietly old new
   quiet_in old mid new r h = λ q. Arrives-passes Quietly old mid new (silent_arrives_quietly old mid r.arrives) (h (r.quiet q))
@@ -173,7 +169,7 @@ module _ (was : Session) (line : Option Command) (s : Session) (answer : Answer)
   command_arrives old mid h = Tells-weaken (RunsCommand was (built_line line) s answer) (Arrives IsSilentStep) old mid h (λ x y r. r.arrives)
 
 -- a command leaves ids that differ
-pub differ_after : (was : Session) (command : Option Command) (s : Session) (answer : Answer) (old new : Option Content) → Tells (RunsCommand was command s answer) old new → IfSome new (OnDisk IdsDiffer)
+pub differ_after : (was : Session) (command : Option Command) (s : Session) (answer : Reply) (old new : Option Content) → Tells (RunsCommand was command s answer) old new → IfSome new (OnDisk IdsDiffer)
 differ_after was command s answer None None r = tt
 differ_after was command s answer None (Some new) r = absurd r
 differ_after was command s answer (Some old) None r = absurd r
@@ -202,15 +198,15 @@ kept_command line = short_or_long line (leb (length line) 2100000) refl
 
 -- ---- the script, line by line
 
-pub answers_append : (kib : ℕ) (S : MachineState) (cs ds : List (Option Command)) → answers_text kib S (cs ++ ds) ≡ answers_text kib S cs ++ answers_text kib (state_answered kib S cs) ds
-answers_append kib S [] ds = refl
-answers_append kib S (c ∷ cs) ds =
-    let here = answer_line kib S c in
-    ap (λ (t : List ℕ). answer_text here.1 ++ t) (answers_append kib here.0 cs ds) ∙ sym (append_assoc (answer_text here.1) (answers_text kib here.0 cs) (answers_text kib (state_answered kib here.0 cs) ds))
+pub answers_append : (S : MachineState) (cs ds : List (Option Command)) → answers_text S (cs ++ ds) ≡ answers_text S cs ++ answers_text (state_answered S cs) ds
+answers_append S [] ds = refl
+answers_append S (c ∷ cs) ds =
+    let here = answer_line S c in
+    ap (λ (t : List ℕ). reply_text here.1 ++ t) (answers_append here.0 cs ds) ∙ sym (append_assoc (reply_text here.1) (answers_text here.0 cs) (answers_text (state_answered here.0 cs) ds))
 
-pub state_append : (kib : ℕ) (S : MachineState) (cs ds : List (Option Command)) → state_answered kib S (cs ++ ds) ≡ state_answered kib (state_answered kib S cs) ds
-state_append kib S [] ds = refl
-state_append kib S (c ∷ cs) ds = state_append kib (answer_line kib S c).0 cs ds
+pub state_append : (S : MachineState) (cs ds : List (Option Command)) → state_answered S (cs ++ ds) ≡ state_answered (state_answered S cs) ds
+state_append S [] ds = refl
+state_append S (c ∷ cs) ds = state_append (answer_line S c).0 cs ds
 
 -- what a cut leaves of the commands
 pub cut_split : (script before rest line kept : List ℕ) (done : List (Option Command)) → commands script ≡ done ++ commands before → lines before ≡ line ∷ lines rest → kept ≡ kept_of_line line
@@ -222,16 +218,16 @@ step_in : (home : PoolId) (Z : MachineState) (script before rest line kept : Lis
     → IsUnderWay home Z script before s old mid → RunsLine s (command_of kept) t mid new → IsUnderWay home Z script rest t old new
 step_in home Z script before rest line kept s t old mid new hs ht cut is u r =
     let c : Option Command = command_of kept in
-    let step : answer_line t.home.kib s.state c ≡ answer_line home.kib (state_answered home.kib Z u.done) c = (λ i. answer_line (ht i).kib (u.state i) c) in
+    let step : answer_line s.state c ≡ answer_line (state_answered Z u.done) c = ap (λ (S : MachineState). answer_line S c) u.state in
     record {
       done = u.done ++ c ∷ [];
       split = cut_split script before rest line kept u.done u.split cut is ∙ sym (append_assoc u.done (c ∷ []) (commands rest));
       answered =
-          r.answered ∙ ap (λ p. mid.now.answered ++ answer_text p.1) step ∙ ap (λ (a : List ℕ). a ++ answer_text (answer_line home.kib (state_answered home.kib Z u.done) c).1) u.answered
-          ∙ append_assoc old.now.answered (answers_text home.kib Z u.done) (answer_text (answer_line home.kib (state_answered home.kib Z u.done) c).1)
+          r.answered ∙ ap (λ p. mid.now.answered ++ reply_text p.1) step ∙ ap (λ (a : List ℕ). a ++ reply_text (answer_line (state_answered Z u.done) c).1) u.answered
+          ∙ append_assoc old.now.answered (answers_text Z u.done) (reply_text (answer_line (state_answered Z u.done) c).1)
           ∙ ap (λ (a : List ℕ). old.now.answered ++ a)
-          (ap (λ (a : List ℕ). answers_text home.kib Z u.done ++ a) (sym (append-nil (answer_text (answer_line home.kib (state_answered home.kib Z u.done) c).1))) ∙ sym (answers_append home.kib Z u.done (c ∷ [])));
-      state = r.state ∙ ap (λ p. p.0) step ∙ sym (state_append home.kib Z u.done (c ∷ []));
+          (ap (λ (a : List ℕ). answers_text Z u.done ++ a) (sym (append-nil (reply_text (answer_line (state_answered Z u.done) c).1))) ∙ sym (answers_append Z u.done (c ∷ [])));
+      state = r.state ∙ ap (λ p. p.0) step ∙ sym (state_append Z u.done (c ∷ []));
     }
 
 pub line_run : (home : PoolId) (Z : MachineState) (old mid new : Option Content) (script left rest : Option (List ℕ)) (a b : Cutter) (kept : List ℕ) (s t : Session) → s.home ≡ home → t.home ≡ home
@@ -247,58 +243,29 @@ line_run home Z (Some old) (Some mid) (Some new) (Some script) (Some l) (Some m)
 
 -- ---- a run that ends since no file is left
 
--- the pool is spent, so the disk is
-no_file_of : (home : PoolId) (pool : PoolState) (d : Disk) → IsWholePool pool d → IsSpent home pool → new_journal_meets_end home d ≡ true
-no_file_of home pool d whole spent =
-    let last : (greatest_id d == last_count) ≡ true = eq-eqb (greatest_id d) last_count (sym whole.1.greatest ∙ spent.last) in
-    let none : has_empty home d ≡ false = no_empty home pool d whole.0 whole.1 spent.empty in
-    λ i. last i && not (none i)
-
--- only the line of a new queue is built as one
-built_is : (c : Option Command) (name : List ℕ) → built_line c ≡ Some (command.Queue name None) → c ≡ Some (command.Queue name None)
-built_is None name e = absurd (cc)
-built_is (Some (command.Queue n None)) name e = e
-built_is (Some (command.Queue n (Some home))) name e = absurd (cc)
-built_is (Some (command.Drop n)) name e = absurd (cc)
-built_is (Some (command.Put n body None)) name e = absurd (other e)
-  where
-    other : Some (command.Put n body None) ≡ Some (command.Queue name None) → ⊥
-    other e = cc
-built_is (Some (command.Put n body (Some x))) name e = absurd (cc)
-built_is (Some (command.Take n number xid)) name e = absurd (cc)
-built_is (Some (command.Begin x)) name e = absurd (cc)
-built_is (Some (command.Prepare x)) name e = absurd (cc)
-built_is (Some (command.Commit x)) name e = absurd (cc)
-built_is (Some (command.Abort x)) name e = absurd (cc)
-built_is (Some (command.List n)) name e = absurd (cc)
-built_is (Some command.Doubt) name e = absurd (cc)
-
-spent_in : (home : PoolId) (Z : MachineState) (script before rest line kept : List ℕ) (s : Session) (old new : Content) → s.home ≡ home → lines before ≡ line ∷ lines rest → kept ≡ kept_of_line line
-    → IsUnderWay home Z script before s old new → FitsSession s new → NeedsFile s (built_line (command_of kept)) → MeetsEnd home Z script old new
-spent_in home Z script before rest line kept s old new hs cut is u fits needs = record {
+spent_in : (home : PoolId) (Z : MachineState) (script before rest line kept : List ℕ) (s : Session) (old mid new : Content) → s.home ≡ home → lines before ≡ line ∷ lines rest → kept ≡ kept_of_line line
+    → IsUnderWay home Z script before s old mid → StopsAtEnd s.home s.state (built_line (command_of kept)) mid new → MeetsEnd home Z script old new
+spent_in home Z script before rest line kept s old mid new hs cut is u stops = record {
   done = u.done;
-  name = needs.name;
+  next = command_of kept;
   rest = commands rest;
-  split = cut_split script before rest line kept u.done u.split cut is ∙ ap (λ (c : Option Command). u.done ++ c ∷ commands rest) (built_is (command_of kept) needs.name needs.makes);
-  answered = u.answered;
-  accepted = ap (λ (S : MachineState). queue_named needs.name S.queues) (sym u.state) ∙ needs.accepted;
-  spent = ap (λ (p : PoolId). new_journal_meets_end p new.now.disk) (sym hs) ∙ no_file_of s.home s.pool new.now.disk fits.pool needs.spent;
+  split = cut_split script before rest line kept u.done u.split cut is;
+  answered = answers_nothing mid new stops.arrives ∙ u.answered;
+  meets = subst (λ (p : PoolId). MeetsItsEnd p (state_answered Z u.done) (built_line (command_of kept)) new.now.disk) hs
+      (subst (λ (S : MachineState). MeetsItsEnd s.home S (built_line (command_of kept)) new.now.disk) u.state stops.meets);
 }
 
 pub line_spent : (home : PoolId) (Z : MachineState) (old mid new : Option Content) (script left rest : Option (List ℕ)) (a b : Cutter) (kept : List ℕ) (s : Session) (limit : ℕ) → s.home ≡ home
-    → UnderWay home Z old mid script a.waiting left s → Counted limit script a.budget left (Ok true) → IfSome mid (FitsSession s) → CutsTold a left b rest kept true → new ≡ mid
-    → NeedsFile s (built_line (command_of kept)) → SpentFrom home Z old new script
-line_spent home Z None mid new script left rest a b kept s limit hs u counted fits cut same needs = tt
-line_spent home Z (Some old) mid None script left rest a b kept s limit hs u counted fits cut same needs = tt
-line_spent home Z (Some old) mid (Some new) None left rest a b kept s limit hs u counted fits cut same needs = tt
-line_spent home Z (Some old) None (Some new) (Some script) left rest a b kept s limit hs u counted fits cut same needs = absurd (cc)
-line_spent home Z (Some old) (Some mid) (Some new) (Some script) None rest a b kept s limit hs u counted fits cut same needs = absurd counted
-line_spent home Z (Some old) (Some mid) (Some new) (Some script) (Some l) None a b kept s limit hs u counted fits cut same needs = absurd cut
-line_spent home Z (Some old) (Some mid) (Some new) (Some script) (Some l) (Some m) a b kept s limit hs u counted fits cut same needs =
-    subst (MeetsEnd home Z script old) (sym (some_is same)) (spent_in home Z script (a.waiting ++ l) (b.waiting ++ m) cut.0 kept s old mid hs cut.1 cut.2 u fits needs)
-  where
-    some_is : Some new ≡ Some mid → new ≡ mid
-    some_is e = cc
+    → UnderWay home Z old mid script a.waiting left s → Counted limit script a.budget left (Ok true) → CutsTold a left b rest kept true
+    → Tells (StopsAtEnd s.home s.state (built_line (command_of kept))) mid new → SpentFrom home Z old new script
+line_spent home Z None mid new script left rest a b kept s limit hs u counted cut stops = tt
+line_spent home Z (Some old) mid None script left rest a b kept s limit hs u counted cut stops = tt
+line_spent home Z (Some old) mid (Some new) None left rest a b kept s limit hs u counted cut stops = tt
+line_spent home Z (Some old) None (Some new) (Some script) left rest a b kept s limit hs u counted cut stops = absurd stops
+line_spent home Z (Some old) (Some mid) (Some new) (Some script) None rest a b kept s limit hs u counted cut stops = absurd counted
+line_spent home Z (Some old) (Some mid) (Some new) (Some script) (Some l) None a b kept s limit hs u counted cut stops = absurd cut
+line_spent home Z (Some old) (Some mid) (Some new) (Some script) (Some l) (Some m) a b kept s limit hs u counted cut stops =
+    spent_in home Z script (a.waiting ++ l) (b.waiting ++ m) cut.0 kept s old mid new hs cut.1 cut.2 u stops
 
 -- no more was read than the limit, where a line ended the run
 pub read_so_far : (f : Fault) (a b : Option (List ℕ)) (budget : ℕ) → IsOfLine f → Counted script_limit a budget b (Ok true) → ReadsBytes (is_too_long (Err f)) a b
@@ -321,28 +288,28 @@ nothing_left : (a b : List ℕ) → a ++ b ≡ [] → b ≡ []
 nothing_left [] b e = e
 nothing_left (x ∷ a) b e = absurd (cc)
 
-end_in : (home : PoolId) (Z : MachineState) (script : List ℕ) (rest : List ℕ) (was s : Session) (old new : Content) → s.home ≡ home → rest ≡ [] → IsUnderWay home Z script rest s old new → FitsSession s new
+end_in : (home : PoolId) (Z : MachineState) (script : List ℕ) (rest : List ℕ) (was s : Session) (old new : Content) → s.home ≡ home → rest ≡ [] → IsUnderWay home Z script rest s old new → HasLogs s → FitsSession s new
     → StaysQuiet old new → StaysClean was s old new → IsCleanSession was old → IsRun home Z script old new
-end_in home Z script rest was s old new h none u fits quiet clean begun =
+end_in home Z script rest was s old new h none u logs fits quiet clean begun =
     let all : commands script ≡ u.done = u.split ∙ ap (λ (r : List ℕ). u.done ++ commands r) none ∙ append-nil u.done in
     record {
-      answered = u.answered ∙ ap (λ cs. old.now.answered ++ answers_text home.kib Z cs) (sym all);
+      answered = u.answered ∙ ap (λ cs. old.now.answered ++ answers_text Z cs) (sym all);
       stored = λ q unmarked.
-          subst (λ (S : MachineState). IsStored home S new.now.disk) (u.state ∙ ap (state_answered home.kib Z) (sym all))
-          (subst (λ (p : PoolId). IsStored p s.state new.now.disk) h (stored s.home s.state s.pool s.files.items new fits (clean unmarked begun) (quiet q)));
+          subst (λ (S : MachineState). IsStored home S new.now.disk) (u.state ∙ ap (state_answered Z) (sym all))
+          (subst (λ (p : PoolId). IsStored p s.state new.now.disk) h (stored s.home s.state s.pool s.queues.items new.now.disk logs fits (clean unmarked begun) (quiet q)));
     }
 
 pub script_ended : (home : PoolId) (Z : MachineState) (old new : Option Content) (script left rest : Option (List ℕ)) (a b : Cutter) (kept : List ℕ) (was s : Session) → s.home ≡ home → was.home ≡ home → was.state ≡ Z
-    → UnderWay home Z old new script a.waiting left s → IfSome new (FitsSession s) → Tells StaysQuiet old new → Tells (StaysClean was s) old new → CutsTold a left b rest kept false → EndsClean was old new script rest
-script_ended home Z None new script left rest a b kept was s h wh ws u fits quiet clean cut = tt
-script_ended home Z (Some old) None script left rest a b kept was s h wh ws u fits quiet clean cut = tt
-script_ended home Z (Some old) (Some new) None left rest a b kept was s h wh ws u fits quiet clean cut = tt
-script_ended home Z (Some old) (Some new) (Some script) left None a b kept was s h wh ws u fits quiet clean cut = tt
-script_ended home Z (Some old) (Some new) (Some script) None (Some m) a b kept was s h wh ws u fits quiet clean cut = absurd cut
-script_ended home Z (Some old) (Some new) (Some script) (Some l) (Some m) a b kept was s h wh ws u fits quiet clean cut = λ begun. (
+    → UnderWay home Z old new script a.waiting left s → HasLogs s → IfSome new (FitsSession s) → Tells StaysQuiet old new → Tells (StaysClean was s) old new → CutsTold a left b rest kept false → EndsClean was old new script rest
+script_ended home Z None new script left rest a b kept was s h wh ws u logs fits quiet clean cut = tt
+script_ended home Z (Some old) None script left rest a b kept was s h wh ws u logs fits quiet clean cut = tt
+script_ended home Z (Some old) (Some new) None left rest a b kept was s h wh ws u logs fits quiet clean cut = tt
+script_ended home Z (Some old) (Some new) (Some script) left None a b kept was s h wh ws u logs fits quiet clean cut = tt
+script_ended home Z (Some old) (Some new) (Some script) None (Some m) a b kept was s h wh ws u logs fits quiet clean cut = absurd cut
+script_ended home Z (Some old) (Some new) (Some script) (Some l) (Some m) a b kept was s h wh ws u logs fits quiet clean cut = λ begun. (
   nothing_left b.waiting m cut.1,
   subst (λ (p : PoolId). IsRun p was.state script old new) (sym wh)
-      (subst (λ (S : MachineState). IsRun home S script old new) (sym ws) (end_in home Z script (a.waiting ++ l) was s old new h cut.0 u fits quiet clean begun)),
+      (subst (λ (S : MachineState). IsRun home S script old new) (sym ws) (end_in home Z script (a.waiting ++ l) was s old new h cut.0 u logs fits quiet clean begun)),
 )
 
 -- ---- the start
@@ -385,7 +352,7 @@ quieted_passes a b h = Tells-weaken Quieted AnswersQuietly a b h (λ x y k q. Pa
 
 -- a call that arrived, and whose answers were quiet, arrived quietly
 arrives_from : (R Q : Moment → Moment → Type 0) (x y : Content) → Arrives R x y → Passes Q x y → Arrives Q x y
-arrives_from R Q x y h p = record { since = p.since; moments = p.moments; chain = p.chain; last = h.last ∙ ap (last_moment x.now) (sym (since_of R x y h) ∙ since_is Q x y p) }
+arrives_from R Q x y h p = record { since = p.since; moments = p.moments; chain = p.chain; last = h.last ∙ ap (last_of x.now) (sym (since_of R x y h) ∙ since_is Q x y p) }
 
 quieted_in : (was s : Session) (line : Option Command) (x y z : Content) → Quieted x y → RunsLine was line s y z × AnswersQuietly y z → Quieted x z
 quieted_in was s line x y z h k = (

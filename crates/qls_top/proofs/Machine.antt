@@ -1,5 +1,5 @@
 -- What the machine does with a new queue and with a put, by whether the queue is there.
-use Rattle.std.proofs.Common.{◌≡◌, ℕ, Bool, true, false, cond, ◌&&◌, ◌+◌, ◌-◌, ◌/◌, ◌^◌, ◌==◌, eqb, ltb, List, [], ◌∷◌, length, Option, Some, None, refl, ap, ◌∙◌}
+use Rattle.std.proofs.Common.{◌≡◌, ℕ, Bool, true, false, cond, ◌+◌, ◌-◌, ◌==◌, eqb, ◌<◌, ◌^◌, List, [], ◌∷◌, Option, Some, None, refl, sym, ap, ◌∙◌, arith}
 use Rattle.std.specs.Option.{is_some, is_none}
 use Rattle.qls_model.specs.Messages.{with_message}
 use Rattle.qls_model.specs.Machine.{MachineState, queue_named, with_queue, change_queue, step, answered, first_true, refusals, put_message, passes, next_number}
@@ -9,24 +9,36 @@ use Rattle.qls_model.specs.declared.machine.Refusal.{Refusal}
 use Rattle.qls_model.specs.declared.machine.Refusal.TheVariants as refusal
 use Rattle.qls_model.specs.declared.machine.Reply.{Reply}
 use Rattle.qls_model.specs.declared.machine.Reply.TheVariants.{Done, Number, Refused}
-use Rattle.qls_top.specs.Answers.{answer_built, plain, blocks, blocks_of}
-use Rattle.qls_top.specs.declared.answer.Answer.TheVariants.{Full}
+
+abbrev pub new_queue : List ℕ → QueueState
+new_queue name = record { name = name; last = 0; messages = [] }
 
 abbrev pub after_queue : MachineState → List ℕ → Option QueueState → MachineState × Reply
-after_queue S name None = (record S { queues = with_queue (record { name = name; last = 0; messages = [] }) S.queues }, Done)
+after_queue S name None = (record S { queues = with_queue (new_queue name) S.queues }, Done)
 after_queue S name (Some q) = (S, Refused refusal.Exists)
 
 pub queue_step : (S : MachineState) (name : List ℕ) (o : Option QueueState) → queue_named name S.queues ≡ o → step S (command.Queue name None) ≡ after_queue S name o
 queue_step S name None e = ap (λ (o : Option QueueState). answered S (command.Queue name None) (first_true ((is_some o, refusal.Exists) ∷ []))) e
 queue_step S name (Some q) e = ap (λ (o : Option QueueState). answered S (command.Queue name None) (first_true ((is_some o, refusal.Exists) ∷ []))) e
 
-and_false : (b : Bool) → (b && false) ≡ false
-and_false true = refl
-and_false false = refl
+-- the machine replies Done where there was no such queue
+pub queue_made : (S T : MachineState) (name : List ℕ) → (T, Done) ≡ step S (command.Queue name None) → (queue_named name S.queues ≡ None) × (T ≡ record S { queues = with_queue (new_queue name) S.queues })
+queue_made S T name h = by (queue_named name S.queues) refl (h ∙ queue_step S name (queue_named name S.queues) refl)
+  where
+    not_done : Done ≡ Refused refusal.Exists → ⊥
+    not_done e = cc
 
--- a new queue is answered as the machine does
-pub queue_plain : (kib : ℕ) (S : MachineState) (name : List ℕ) → answer_built kib S (Some (command.Queue name None)) ≡ plain (step S (command.Queue name None))
-queue_plain kib S name = ap (λ b. cond b (S, Full) (plain (step S (command.Queue name None)))) (and_false (is_none (first_true (refusals S (command.Queue name None)))))
+    by : (o : Option QueueState) → queue_named name S.queues ≡ o → (T, Done) ≡ after_queue S name o → (o ≡ None) × (T ≡ record S { queues = with_queue (new_queue name) S.queues })
+    by None e k = (refl, ap (λ r. r.0) k)
+    by (Some q) e k = absurd (not_done (ap (λ r. r.1) k))
+
+-- another reply leaves the state
+pub queue_stays : (S T : MachineState) (name : List ℕ) (r : Reply) → (r ≡ Done → ⊥) → (T, r) ≡ step S (command.Queue name None) → T ≡ S
+queue_stays S T name r other h = by (queue_named name S.queues) (h ∙ queue_step S name (queue_named name S.queues) refl)
+  where
+    by : (o : Option QueueState) → (T, r) ≡ after_queue S name o → T ≡ S
+    by None e = absurd (other (ap (λ p. p.1) e))
+    by (Some q) e = ap (λ p. p.0) e
 
 -- ---- a put
 
@@ -34,33 +46,54 @@ queue_plain kib S name = ap (λ b. cond b (S, Full) (plain (step S (command.Queu
 abbrev put_refusal : Option QueueState → Option Refusal
 put_refusal o = cond (is_none o) (Some refusal.Queue) (cond (passes (λ q. q.last == 2 ^ 62 - 1) o) (Some refusal.Spent) None)
 
-abbrev is_filled : ℕ → List ℕ → Option QueueState → Bool
-is_filled kib body o = passes (λ q. ltb (kib / 4) (blocks_of q.messages + blocks (length body))) o
+abbrev pub put_state : MachineState → List ℕ → List ℕ → ℕ → MachineState
+put_state S name body n = record S { queues = change_queue name (with_message (put_message n body None)) S.queues }
 
--- the queue isn't there
-pub put_nowhere : (kib : ℕ) (S : MachineState) (name body : List ℕ) → queue_named name S.queues ≡ None
-    → answer_built kib S (Some (command.Put name body None)) ≡ plain (step S (command.Put name body None))
-put_nowhere kib S name body e = ap (λ o. cond (is_none (put_refusal o) && is_filled kib body o) (S, Full) (plain (step S (command.Put name body None)))) e
+abbrev after_put : MachineState → List ℕ → List ℕ → Option QueueState → Bool → MachineState × Reply
+after_put S name body None spent = (S, Refused refusal.Queue)
+after_put S name body (Some q) true = (S, Refused refusal.Spent)
+after_put S name body (Some q) false = (put_state S name body (q.last + 1), Number (q.last + 1))
 
-pub put_refused : (S : MachineState) (name body : List ℕ) → queue_named name S.queues ≡ None → step S (command.Put name body None) ≡ (S, Refused refusal.Queue)
-put_refused S name body e = ap (λ o. answered S (command.Put name body None) (put_refusal o)) e
+abbrev is_last : Option QueueState → Bool
+is_last o = passes (λ q. q.last == 2 ^ 62 - 1) o
 
-module _ (kib : ℕ) (S : MachineState) (name body : List ℕ) (q : QueueState) (e : queue_named name S.queues ≡ Some q) (last : eqb q.last (2 ^ 62 - 1) ≡ false) where
-  -- the put is accepted
-  no_refusal : first_true (refusals S (command.Put name body None)) ≡ None
-  no_refusal = ap put_refusal e ∙ ap (λ b. cond b (Some refusal.Spent) None) last
+put_by : (S : MachineState) (name body : List ℕ) (o : Option QueueState) → queue_named name S.queues ≡ o → (b : Bool) → is_last o ≡ b → step S (command.Put name body None) ≡ after_put S name body o b
+put_by S name body None e b k = ap (λ o. answered S (command.Put name body None) (put_refusal o)) e
+put_by S name body (Some q) e true k = ap (λ o. answered S (command.Put name body None) (put_refusal o)) e ∙ ap (λ b. answered S (command.Put name body None) (cond b (Some refusal.Spent) None)) k
+put_by S name body (Some q) e false k =
+    ap (λ o. answered S (command.Put name body None) (put_refusal o)) e ∙ ap (λ b. answered S (command.Put name body None) (cond b (Some refusal.Spent) None)) k
+    ∙ ap (λ o. (put_state S name body (next_number o), Number (next_number o))) e
 
-  pub put_step : step S (command.Put name body None) ≡ (record S { queues = change_queue name (with_message (put_message (q.last + 1) body None)) S.queues }, Number (q.last + 1))
-  put_step =
-      ap (answered S (command.Put name body None)) no_refusal
-      ∙ ap (λ o. (record S { queues = change_queue name (with_message (put_message (next_number o) body None)) S.queues }, Number (next_number o))) e
+-- a put that is answered with a number
+pub record HasPut (S T : MachineState) (name body : List ℕ) (n : ℕ) : Type 0 where
+  pub queue : QueueState
+  pub there : queue_named name S.queues ≡ Some queue
+  pub more : (queue.last == 2 ^ 62 - 1) ≡ false
+  pub number : n ≡ queue.last + 1
+  pub state : T ≡ put_state S name body (queue.last + 1)
 
-  pub put_full : ltb (kib / 4) (blocks_of q.messages + blocks (length body)) ≡ true → answer_built kib S (Some (command.Put name body None)) ≡ (S, Full)
-  put_full h =
-      let filled : is_filled kib body (queue_named name S.queues) ≡ true = ap (is_filled kib body) e ∙ h in
-      λ i. cond (is_none (no_refusal i) && filled i) (S, Full) (plain (step S (command.Put name body None)))
+pub put_answered : (S T : MachineState) (name body : List ℕ) (n : ℕ) → (T, Number n) ≡ step S (command.Put name body None) → HasPut S T name body n
+put_answered S T name body n h = by (queue_named name S.queues) refl (is_last (queue_named name S.queues)) refl (h ∙ put_by S name body (queue_named name S.queues) refl (is_last (queue_named name S.queues)) refl)
+  where
+    not_queue : Number n ≡ Refused refusal.Queue → ⊥
+    not_queue e = cc
 
-  pub put_room : ltb (kib / 4) (blocks_of q.messages + blocks (length body)) ≡ false → answer_built kib S (Some (command.Put name body None)) ≡ plain (step S (command.Put name body None))
-  put_room h =
-      let filled : is_filled kib body (queue_named name S.queues) ≡ false = ap (is_filled kib body) e ∙ h in
-      λ i. cond (is_none (no_refusal i) && filled i) (S, Full) (plain (step S (command.Put name body None)))
+    not_spent : Number n ≡ Refused refusal.Spent → ⊥
+    not_spent e = cc
+
+    number_is : (m : ℕ) → Number n ≡ Number m → n ≡ m
+    number_is m e = cc
+
+    by : (o : Option QueueState) → queue_named name S.queues ≡ o → (b : Bool) → is_last (queue_named name S.queues) ≡ b → (T, Number n) ≡ after_put S name body o b → HasPut S T name body n
+    by None e b k m = absurd (not_queue (ap (λ r. r.1) m))
+    by (Some q) e true k m = absurd (not_spent (ap (λ r. r.1) m))
+    by (Some q) e false k m = record { queue = q; there = e; more = ap is_last (sym e) ∙ k; number = number_is (q.last + 1) (ap (λ r. r.1) m); state = ap (λ r. r.0) m }
+
+-- another reply leaves the state
+pub put_stays : (S T : MachineState) (name body : List ℕ) (r : Reply) → ((n : ℕ) → r ≡ Number n → ⊥) → (T, r) ≡ step S (command.Put name body None) → T ≡ S
+put_stays S T name body r other h = by (queue_named name S.queues) (is_last (queue_named name S.queues)) (h ∙ put_by S name body (queue_named name S.queues) refl (is_last (queue_named name S.queues)) refl)
+  where
+    by : (o : Option QueueState) (b : Bool) → (T, r) ≡ after_put S name body o b → T ≡ S
+    by None b e = ap (λ p. p.0) e
+    by (Some q) true e = ap (λ p. p.0) e
+    by (Some q) false e = absurd (other (q.last + 1) (ap (λ p. p.1) e))

@@ -7,17 +7,20 @@ use Rattle.qls_site.specs.Disk.{Disk, IsQuiet}
 use Rattle.qls_site.specs.Content.{Content, Moment, Tells, moments_since, on_answered}
 use Rattle.qls_meaning.specs.History.{AllUnmarked}
 use Rattle.qls_command.specs.Lines.{lines, commands, command_of}
-use Rattle.qls_top.specs.declared.answer.Answer.{Answer}
+use Rattle.qls_model.specs.declared.machine.Reply.{Reply}
 use Rattle.qls_top.specs.declared.session.Session.{Session}
-use Rattle.qls_top.specs.Answers.{answer_text, answer_line, built_line, state_answered, answers_text}
+use Rattle.qls_command.specs.Texts.{reply_text}
+use Rattle.qls_top.specs.Answers.{answer_line, built_line, state_answered, answers_text}
 use Rattle.qls_top.specs.Cutting.{Cutter, kept_of_line, CutsTold, Counted}
-use Rattle.qls_top.specs.Moments.{Chain, last_moment, Passes, Arrives, AddsAnswer, AtReplies, IsRunStep, IsSilentStep, UnmarkedSince}
-use Rattle.qls_top.specs.Sessions.{RunsCommand, RepliesLine, IsCleanSession}
+use Rattle.qls_pool.specs.Moments.{Chain, Passes, Arrives}
+use Rattle.qls_meaning.specs.History.{last_of}
+use Rattle.qls_top.specs.Moments.{AddsAnswer, AtReplies, IsRunStep, IsSilentStep, UnmarkedSince}
+use Rattle.qls_top.specs.Sessions.{HasLogs, RunsCommand, RepliesLine, IsCleanSession}
 use Rattle.qls_top.specs.Stored.{IsStored}
 use Rattle.qls_top.specs.Run.{IsUnderWay, UnderWay, StaysClean, IsReplied, RepliesIn, RepliesFrom, RepliesStored, RepliesClean}
-use Rattle.qls_top.proofs.Chains.{chain-append, chain_weaken, Arrives-none, Passes-of, since_is, since_of, since_then, answers_nothing}
+use Rattle.qls_top.proofs.Chains.{chain-append, chain_weaken, Arrives-none, Passes-of, since_is, since_of, since_then, answers_nothing, unmarked_front, unmarked_rest}
 use Rattle.qls_top.proofs.Fitting.{stored}
-use Rattle.qls_top.proofs.Lines.{Quieted, answers_append, state_append, cut_split, unmarked_front, unmarked_rest}
+use Rattle.qls_top.proofs.Lines.{Quieted, answers_append, state_append, cut_split}
 use Rattle.qls_top.proofs.Beginning.{Looked, clean_nothing}
 
 -- ---- a line
@@ -28,7 +31,7 @@ silent_replies P m ms h = chain_weaken IsSilentStep (AtReplies P) (λ m n s. inl
 
 silent_in : (was : Session) (line : Option Command) (x y : Content) → Passes IsSilentStep x y → RepliesLine was line x y
 silent_in was line x y h = λ quiet unmarked clean.
-    subst (λ (ms : List Moment). Chain (AtReplies (λ n. (n.answered ≡ x.now.answered ++ answer_text (answer_line was.home.kib was.state line).1) × IsStored was.home (answer_line was.home.kib was.state line).0 n.disk)) x.now ms)
+    subst (λ (ms : List Moment). Chain (AtReplies (λ n. (n.answered ≡ x.now.answered ++ reply_text (answer_line was.state line).1) × IsStored was.home (answer_line was.state line).0 n.disk)) x.now ms)
     (sym (since_is IsSilentStep x y h)) (silent_replies _ x.now h.since h.chain)
 
 pub told_silent : (was : Session) (line : Option Command) (a b : Option Content) → Tells (Passes IsSilentStep) a b → Tells (RepliesLine was line) a b
@@ -43,27 +46,27 @@ answer_chain P bytes mid new (inl e) p = subst (λ (ms : List Moment). Chain (At
 answer_chain P bytes mid new (inr (inl e)) p = subst (λ (ms : List Moment). Chain (AtReplies P) mid.now ms) (sym e) (inr p, tt)
 answer_chain P bytes mid new (inr (inr e)) p = subst (λ (ms : List Moment). Chain (AtReplies P) mid.now ms) (sym e) (inl refl, (inr p, tt))
 
-module _ (was s : Session) (line : Option Command) (answer : Answer) (at_home : s.home ≡ was.home) where
-  abbrev after : MachineState × Answer
-  after = answer_line was.home.kib was.state line
+module _ (was s : Session) (line : Option Command) (answer : Reply) (at_home : s.home ≡ was.home) (logs : HasLogs s) where
+  abbrev after : MachineState × Reply
+  after = answer_line was.state line
 
-  replied_in : (old mid new : Content) → RunsCommand was (built_line line) s answer old mid → Passes IsRunStep mid new → AddsAnswer (answer_text answer) mid new → RepliesLine was line old new
+  replied_in : (old mid new : Content) → RunsCommand was (built_line line) s answer old mid → Passes IsRunStep mid new → AddsAnswer (reply_text answer) mid new → RepliesLine was line old new
   replied_in old mid new r k adds = λ quiet unmarked clean.
       let xs : List Moment = r.arrives.since in
       let ys : List Moment = moments_since mid new in
       let split : moments_since old new ≡ xs ++ ys = since_then IsSilentStep IsRunStep old mid new (Passes-of IsSilentStep old mid r.arrives) k ∙ ap (λ (ms : List Moment). xs ++ ms) (sym (since_is IsRunStep mid new k)) in
-      let stepped : (s.state, answer) ≡ after = r.stepped ∙ ap (λ (p : PoolId). answer_line p.kib was.state line) at_home in
+      let stepped : (s.state, answer) ≡ after = r.stepped in
       let begun : IsCleanSession s mid = r.clean (unmarked_front old.now xs ys (subst (AllUnmarked old.now) split unmarked)) clean in
-      let holds : IsStored s.home s.state mid.now.disk = stored s.home s.state s.pool s.files.items mid r.fits begun (r.quiet quiet) in
+      let holds : IsStored s.home s.state mid.now.disk = stored s.home s.state s.pool s.queues.items mid.now.disk logs r.fits begun (r.quiet quiet) in
       let here : IsStored was.home after.0 mid.now.disk = subst (λ (p : PoolId). IsStored p after.0 mid.now.disk) at_home (subst (λ (S : MachineState). IsStored s.home S mid.now.disk) (ap (λ p. p.0) stepped) holds) in
-      let said : mid.now.answered ++ answer_text answer ≡ old.now.answered ++ answer_text after.1 =
-      ap (λ (b : List ℕ). b ++ answer_text answer) (answers_nothing old mid r.arrives) ∙ ap (λ p. old.now.answered ++ answer_text p.1) stepped in
-      subst (λ (ms : List Moment). Chain (AtReplies (λ n. (n.answered ≡ old.now.answered ++ answer_text after.1) × IsStored was.home after.0 n.disk)) old.now ms) (sym split)
-      (chain-append (AtReplies (λ n. (n.answered ≡ old.now.answered ++ answer_text after.1) × IsStored was.home after.0 n.disk)) old.now xs ys (silent_replies _ old.now xs r.arrives.chain)
-      (subst (λ (m : Moment). Chain (AtReplies (λ n. (n.answered ≡ old.now.answered ++ answer_text after.1) × IsStored was.home after.0 n.disk)) m ys) r.arrives.last
-      (answer_chain (λ n. (n.answered ≡ old.now.answered ++ answer_text after.1) × IsStored was.home after.0 n.disk) (answer_text answer) mid new adds (said, here))))
+      let said : mid.now.answered ++ reply_text answer ≡ old.now.answered ++ reply_text after.1 =
+      ap (λ (b : List ℕ). b ++ reply_text answer) (answers_nothing old mid r.arrives) ∙ ap (λ p. old.now.answered ++ reply_text p.1) stepped in
+      subst (λ (ms : List Moment). Chain (AtReplies (λ n. (n.answered ≡ old.now.answered ++ reply_text after.1) × IsStored was.home after.0 n.disk)) old.now ms) (sym split)
+      (chain-append (AtReplies (λ n. (n.answered ≡ old.now.answered ++ reply_text after.1) × IsStored was.home after.0 n.disk)) old.now xs ys (silent_replies _ old.now xs r.arrives.chain)
+      (subst (λ (m : Moment). Chain (AtReplies (λ n. (n.answered ≡ old.now.answered ++ reply_text after.1) × IsStored was.home after.0 n.disk)) m ys) r.arrives.last
+      (answer_chain (λ n. (n.answered ≡ old.now.answered ++ reply_text after.1) × IsStored was.home after.0 n.disk) (reply_text answer) mid new adds (said, here))))
 
-  pub told_replied : (a b c : Option Content) → Tells (RunsCommand was (built_line line) s answer) a b → Tells (Passes IsRunStep) b c → Tells (AddsAnswer (answer_text answer)) b c → Tells (RepliesLine was line) a c
+  pub told_replied : (a b c : Option Content) → Tells (RunsCommand was (built_line line) s answer) a b → Tells (Passes IsRunStep) b c → Tells (AddsAnswer (reply_text answer)) b c → Tells (RepliesLine was line) a c
   told_replied None None None r k adds = tt
   told_replied None None (Some z) r k adds = absurd k
   told_replied None (Some y) c r k adds = absurd r
@@ -81,23 +84,23 @@ replies_none s (Some c) (Some script) = λ quiet unmarked clean.
 
 -- what a line's answer says is what a run's reply says
 reply_of : (home : PoolId) (S : MachineState) (script before rest line kept : List ℕ) (was : Session) (old mid : Content) (n : Moment) → was.home ≡ home → lines before ≡ line ∷ lines rest → kept ≡ kept_of_line line
-    → IsUnderWay home S script before was old mid → n.answered ≡ mid.now.answered ++ answer_text (answer_line was.home.kib was.state (command_of kept)).1
-    → IsStored was.home (answer_line was.home.kib was.state (command_of kept)).0 n.disk → IsReplied home S script old.now.answered n
+    → IsUnderWay home S script before was old mid → n.answered ≡ mid.now.answered ++ reply_text (answer_line was.state (command_of kept)).1
+    → IsStored was.home (answer_line was.state (command_of kept)).0 n.disk → IsReplied home S script old.now.answered n
 reply_of home S script before rest line kept was old mid n at cut is u said holds =
     let c : Option Command = command_of kept in
-    let step : answer_line was.home.kib was.state c ≡ answer_line home.kib (state_answered home.kib S u.done) c = (λ i. answer_line (at i).kib (u.state i) c) in
-    let text : List ℕ = answer_text (answer_line home.kib (state_answered home.kib S u.done) c).1 in
+    let step : answer_line was.state c ≡ answer_line (state_answered S u.done) c = ap (λ (T : MachineState). answer_line T c) u.state in
+    let text : List ℕ = reply_text (answer_line (state_answered S u.done) c).1 in
     record {
       done = u.done ++ c ∷ [];
       rest = commands rest;
       split = cut_split script before rest line kept u.done u.split cut is ∙ sym (append_assoc u.done (c ∷ []) (commands rest));
       answered =
-          said ∙ ap (λ p. mid.now.answered ++ answer_text p.1) step ∙ ap (λ (a : List ℕ). a ++ text) u.answered
-          ∙ append_assoc old.now.answered (answers_text home.kib S u.done) text
-          ∙ ap (λ (a : List ℕ). old.now.answered ++ a) (ap (λ (a : List ℕ). answers_text home.kib S u.done ++ a) (sym (append-nil text)) ∙ sym (answers_append home.kib S u.done (c ∷ [])));
+          said ∙ ap (λ p. mid.now.answered ++ reply_text p.1) step ∙ ap (λ (a : List ℕ). a ++ text) u.answered
+          ∙ append_assoc old.now.answered (answers_text S u.done) text
+          ∙ ap (λ (a : List ℕ). old.now.answered ++ a) (ap (λ (a : List ℕ). answers_text S u.done ++ a) (sym (append-nil text)) ∙ sym (answers_append S u.done (c ∷ [])));
       stored =
-          subst (λ (T : MachineState). IsStored home T n.disk) (ap (λ p. p.0) step ∙ sym (state_append home.kib S u.done (c ∷ [])))
-          (subst (λ (p : PoolId). IsStored p (answer_line was.home.kib was.state c).0 n.disk) at holds);
+          subst (λ (T : MachineState). IsStored home T n.disk) (ap (λ p. p.0) step ∙ sym (state_append S u.done (c ∷ [])))
+          (subst (λ (p : PoolId). IsStored p (answer_line was.state c).0 n.disk) at holds);
     }
 
 at_replies : (P Q : Moment → Type 0) → ((n : Moment) → P n → Q n) → (m n : Moment) → AtReplies P m n → AtReplies Q m n
@@ -117,13 +120,13 @@ module _ (first was : Session) (script before rest line kept : List ℕ) (at : w
       let front : UnmarkedSince x y = subst (AllUnmarked x.now) (sym (since_of IsRunStep x y h)) (unmarked_front x.now xs ys all) in
       let back : UnmarkedSince y z =
       subst (AllUnmarked y.now) (sym (since_is IsRunStep y z k)) (subst (λ (m : Moment). AllUnmarked m ys) (sym h.last) (unmarked_rest x.now xs ys all)) in
-      let said = subst (λ (ms : List Moment). Chain (AtReplies (λ n. (n.answered ≡ y.now.answered ++ answer_text (answer_line was.home.kib was.state (command_of kept)).1) × IsStored was.home (answer_line was.home.kib was.state (command_of kept)).0 n.disk)) y.now ms)
+      let said = subst (λ (ms : List Moment). Chain (AtReplies (λ n. (n.answered ≡ y.now.answered ++ reply_text (answer_line was.state (command_of kept)).1) × IsStored was.home (answer_line was.state (command_of kept)).0 n.disk)) y.now ms)
       (since_is IsRunStep y z k) (l (q.1 quiet) back (clean front begun)) in
       subst (λ (ms : List Moment). Chain (AtReplies P) x.now ms) (sym split)
       (chain-append (AtReplies P) x.now xs ys (subst (λ (ms : List Moment). Chain (AtReplies P) x.now ms) (since_of IsRunStep x y h) (so_far quiet front begun))
       (subst (λ (m : Moment). Chain (AtReplies P) m ys) h.last
-      (chain_weaken (AtReplies (λ n. (n.answered ≡ y.now.answered ++ answer_text (answer_line was.home.kib was.state (command_of kept)).1) × IsStored was.home (answer_line was.home.kib was.state (command_of kept)).0 n.disk)) (AtReplies P)
-      (at_replies (λ n. (n.answered ≡ y.now.answered ++ answer_text (answer_line was.home.kib was.state (command_of kept)).1) × IsStored was.home (answer_line was.home.kib was.state (command_of kept)).0 n.disk) P
+      (chain_weaken (AtReplies (λ n. (n.answered ≡ y.now.answered ++ reply_text (answer_line was.state (command_of kept)).1) × IsStored was.home (answer_line was.state (command_of kept)).0 n.disk)) (AtReplies P)
+      (at_replies (λ n. (n.answered ≡ y.now.answered ++ reply_text (answer_line was.state (command_of kept)).1) × IsStored was.home (answer_line was.state (command_of kept)).0 n.disk) P
       (λ n p. reply_of first.home first.state script before rest line kept was x y n at cut is u p.0 p.1)) y.now ys said)))
 
 pub line_replies : (first was : Session) (old mid new : Option Content) (script left rest : Option (List ℕ)) (a b : Cutter) (kept : List ℕ) (limit : ℕ) → was.home ≡ first.home
@@ -163,7 +166,7 @@ replies_from home S script x y z h k so_far = λ quiet unmarked.
     same_chain : (P : Moment → Type 0) (m : Moment) (ms : List Moment) → ((n : ℕ) × (ms ≡ replicate n m)) → Chain (AtReplies P) m ms
     same_chain P m ms (n, e) = subst (λ (ns : List Moment). Chain (AtReplies P) m ns) (sym e) (again_chain P m n)
 
-pub run_replies : (home : PoolId) (s : Session) (a b c : Option Content) (script : Option (List ℕ)) → s.home ≡ home → s.state ≡ empty_state → s.files.items ≡ [] → Tells Looked a b → Tells (Passes IsRunStep) b c
+pub run_replies : (home : PoolId) (s : Session) (a b c : Option Content) (script : Option (List ℕ)) → s.home ≡ home → s.state ≡ empty_state → s.queues.items ≡ [] → Tells Looked a b → Tells (Passes IsRunStep) b c
     → RepliesClean s b c script → RepliesStored home a c script
 run_replies home s None b c script at state none h k r = tt
 run_replies home s (Some x) b None script at state none h k r = tt

@@ -1,256 +1,316 @@
--- What a session's steps leave, where the site tells its content.
-use Rattle.std.proofs.Common.{◌≡◌, ◌⊎◌, inl, inr, ℕ, true, false, eqb, ltb, ◌+◌, ◌-◌, ◌*◌, ◌/◌, ◌^◌, ◌<◌, ◌≤◌, List, [], ◌∷◌, ◌++◌, length, take, Option, Some, None, IfSome, refl, sym, ap, ◌∙◌, subst, arith, get_or}
+-- What a session's commands leave, where the site tells its content.
+use Rattle.std.proofs.Common.{◌≡◌, ◌⊎◌, inl, inr, ℕ, Bool, true, false, not, cond, ◌&&◌, ◌||◌, ltb, ◌==◌, ◌+◌, ◌-◌, ◌*◌, ◌<◌, ◌≤◌, List, [], ◌∷◌, ◌++◌, map, length, append-nil, take, Option, Some, None, IfSome, refl, sym, ap, ◌∙◌, subst, arith, get_or}
+use Rattle.std.specs.List.{flat_map, slice_get}
+use Rattle.std.proofs.lemmas.Option.{slice_get-get_or}
 use Rattle.std.proofs.Math.ListN.{set}
-use Rattle.std.proofs.lemmas.Bool.{lt-ltb}
-use Rattle.qls_model.specs.Limits.{is_partition, is_kib, is_queue_name}
-use Rattle.qls_model.specs.Machine.{MachineState, queue_named, with_queue, change_queue, step, put_message}
+use Rattle.std.proofs.lemmas.Bool.{and_parts, lt-ltb, ltb-true}
+use Rattle.std.proofs.lemmas.Grind.{flat_map-append}
+use Rattle.std.proofs.lemmas.List.{map-append}
+use Rattle.std.proofs.Math.Nat.{mul-le-mul_left, mul-add}
 use Rattle.qls_model.specs.Messages.{with_message}
+use Rattle.qls_model.specs.Machine.{MachineState, queue_named, step, put_message}
 use Rattle.qls_model.specs.declared.machine.PoolId.{PoolId}
+use Rattle.qls_model.specs.declared.machine.Message.{Message}
 use Rattle.qls_model.specs.declared.machine.QueueState.{QueueState}
+use Rattle.qls_model.specs.declared.machine.Status.TheVariants.{Ready}
 use Rattle.qls_model.specs.declared.machine.Command.{Command}
 use Rattle.qls_model.specs.declared.machine.Command.TheVariants as command
 use Rattle.qls_model.specs.declared.machine.Reply.{Reply}
-use Rattle.qls_model.specs.declared.machine.Reply.TheVariants.{Done, Number, Refused}
-use Rattle.qls_model.specs.declared.machine.Refusal.TheVariants as refusal
-use Rattle.qls_site.specs.Disk.{Disk, IsQuiet, write_at, sync_at}
-use Rattle.qls_site.specs.Content.{Content, Moment, Tells}
-use Rattle.qls_top.specs.declared.answer.Answer.{Answer}
-use Rattle.qls_top.specs.declared.answer.Answer.TheVariants.{Plain, Full}
-use Rattle.qls_top.specs.declared.files.QueueFile.{QueueFile}
-use Rattle.qls_top.specs.declared.session.Session.{Session}
-use Rattle.qls_top.specs.Answers.{answer_built, plain, blocks, blocks_of}
-use Rattle.qls_meaning.specs.Journals.{is_in_use}
-use Rattle.qls_meaning.specs.History.{is_file_in_use}
+use Rattle.qls_model.specs.declared.machine.Reply.TheVariants.{Done, Number}
+use Rattle.qls_site.specs.Disk.{Disk}
+use Rattle.qls_site.specs.Content.{Content, Tells}
+use Rattle.qls_meaning.specs.Reading.{Read}
+use Rattle.qls_meaning.specs.Journals.{Headed}
+use Rattle.qls_meaning.specs.Dead.{newest_number}
+use Rattle.qls_meaning.specs.Spent.{last_count, no_file_left, greatest_epoch, batch_meets_end}
+use Rattle.qls_record.specs.Record.{Record}
 use Rattle.qls_pool.specs.Pools.{PoolState}
-use Rattle.qls_top.specs.Steps.{MayStart, MayWrite, TakesFile, WritesBlock, block_bytes}
-use Rattle.qls_top.specs.Table.{entry_named, IsCleanTable, Keeps, Pairs, Fits}
-use Rattle.qls_top.specs.Sessions.{FitsSession, RunsCommand}
+use Rattle.qls_log.specs.declared.opening.Opening.{Opening}
+use Rattle.qls_log.specs.Logs.{LogState, capacity_in}
+use Rattle.qls_log.specs.Standing.{files_on}
+use Rattle.qls_log.specs.Steps.{room_on}
+use Rattle.qls_top.specs.declared.queues.QueueLog.{QueueLog}
+use Rattle.qls_top.specs.declared.session.Session.{Session}
+use Rattle.qls_top.specs.Answers.{answer_built}
 use Rattle.qls_top.specs.Moments.{IsSilentStep}
-use Rattle.qls_top.proofs.Tables.{quiet-written}
+use Rattle.qls_top.specs.Stored.{records_of, all_records}
+use Rattle.qls_top.specs.Steps.{Stands, MakesLog, WritesMessage, HasWritten, MayMake, MayWrite, EndsMaking, EndsWriting}
+use Rattle.qls_top.specs.Table.{log_named, opening_of, block_of, written, IsLogOf, Keeps, IsTable, Fits, ReadsQueue, IsCleanTable}
+use Rattle.qls_top.specs.Ends.{room_left, put_meets_end, NeedsFirst, NeedsNext, StopsAtEnd}
+use Rattle.qls_top.specs.Sessions.{HasLogs, FitsSession, IsCleanSession, RunsCommand}
 use Rattle.qls_top.proofs.Chains.{Arrives-none}
-use Rattle.qls_top.proofs.Machine.{after_queue, queue_step, queue_plain, put_nowhere, put_refused, put_step, put_full, put_room}
-use Rattle.qls_top.proofs.Fitting.{fits_queue, clean_queue, no_journal, legal_only_header, paired}
-use Rattle.qls_top.proofs.Putting.{fits_put, clean_put, few_messages}
-
--- ---- a new queue
-
--- the machine replies Done where there was no such queue
-made_state : (S T : MachineState) (name : List ℕ) (o : Option QueueState) → queue_named name S.queues ≡ o → (T, Done) ≡ after_queue S name o
-    → (o ≡ None) × (T ≡ record S { queues = with_queue (record { name = name; last = 0; messages = [] }) S.queues })
-made_state S T name None e h = (refl, ap (λ r. r.0) h)
-made_state S T name (Some q) e h = absurd (not_done (ap (λ r. r.1) h))
-  where
-    not_done : Done ≡ Refused refusal.Exists → ⊥
-    not_done e = cc
-
--- a legal header, by the limits of the pool and the name
-queue_made_in : (was s : Session) (T : MachineState) (name : List ℕ) (id serial : ℕ) (pool : PoolState) (old new : Content)
-    → is_partition was.home.part ≡ true → is_kib was.home.kib ≡ true → is_queue_name name ≡ true → serial < 2 ^ 64
-    → FitsSession was old → (T, Done) ≡ step was.state (command.Queue name None) → TakesFile was.home (record { name = name; id = id; serial = serial; used = 0 }) pool old new
-    → s.state ≡ T → s.home ≡ was.home → s.pool ≡ pool → s.files.items ≡ was.files.items ++ (record { name = name; id = id; serial = serial; used = 0 }) ∷ []
-    → RunsCommand was (Some (command.Queue name None)) s (Plain Done) old new
-queue_made_in was s T name id serial pool old new part kib queue small fits h made state at_home in_pool in_files =
-    let S : MachineState = was.state in
-    let t : QueueFile = record { name = name; id = id; serial = serial; used = 0 } in
-    let made_is = made_state S T name (queue_named name S.queues) refl (h ∙ queue_step S name (queue_named name S.queues) refl) in
-    let legal = legal_only_header was.home name serial part kib queue small in
-    record {
-      stepped = (λ i. (state i, Plain Done)) ∙ ap plain h ∙ sym (queue_plain s.home.kib S name);
-      arrives = made.arrives;
-      quiet = made.quiet;
-      fits =
-          subst (λ (p : PoolId). Fits p s.state s.pool s.files.items new) (sym at_home)
-          (subst (λ (U : MachineState). Fits was.home U s.pool s.files.items new) (sym (state ∙ made_is.1))
-          (subst (λ (p : PoolState). Fits was.home (record S { queues = with_queue (record { name = name; last = 0; messages = [] }) S.queues }) p s.files.items new) (sym in_pool)
-          (subst (λ (fs : List QueueFile). Fits was.home (record S { queues = with_queue (record { name = name; last = 0; messages = [] }) S.queues }) pool fs new) (sym in_files)
-          (fits_queue was.home S was.pool pool was.files.items old new t refl made fits made_is.0 legal made.limit))));
-      clean = λ unmarked clean.
-          subst (λ (fs : List QueueFile). IsCleanTable fs new.now.disk) (sym in_files) (clean_queue was.home S was.pool pool was.files.items old new t refl made fits made_is.0 unmarked clean);
-    }
-
-pub queue_made : (was s : Session) (T : MachineState) (name : List ℕ) (id serial : ℕ) (pool : PoolState) (old new : Option Content)
-    → is_partition was.home.part ≡ true → is_kib was.home.kib ≡ true → is_queue_name name ≡ true → serial < 2 ^ 64
-    → IfSome old (FitsSession was) → (T, Done) ≡ step was.state (command.Queue name None) → Tells (TakesFile was.home (record { name = name; id = id; serial = serial; used = 0 }) pool) old new
-    → s.state ≡ T → s.home ≡ was.home → s.pool ≡ pool → s.files.items ≡ was.files.items ++ (record { name = name; id = id; serial = serial; used = 0 }) ∷ []
-    → Tells (RunsCommand was (Some (command.Queue name None)) s (Plain Done)) old new
-queue_made was s T name id serial pool None None part kib queue small fits h made state at_home in_pool in_files = tt
-queue_made was s T name id serial pool None (Some e) part kib queue small fits h made state at_home in_pool in_files = absurd made
-queue_made was s T name id serial pool (Some c) None part kib queue small fits h made state at_home in_pool in_files = absurd made
-queue_made was s T name id serial pool (Some c) (Some e) part kib queue small fits h made state at_home in_pool in_files =
-    queue_made_in was s T name id serial pool c e part kib queue small fits h made state at_home in_pool in_files
-
--- what a new queue asks of the site: its journal has no file
-pub may_start : (was : Session) (T : MachineState) (name : List ℕ) (c : Content) → FitsSession was c → (T, Done) ≡ step was.state (command.Queue name None) → MayStart name was.pool c
-may_start was T name c fits h =
-    let made_is = made_state was.state T name (queue_named name was.state.queues) refl (h ∙ queue_step was.state name (queue_named name was.state.queues) refl) in
-    record { pool = fits.pool; limit = fits.limit; none = no_journal was.home was.state was.pool was.files.items c fits name made_is.0 }
+use Rattle.qls_top.proofs.Fitting.{paired, paired_queue, no_journal, reads_there}
+use Rattle.qls_top.proofs.Growing.{entry_after, queue_after_change, grown_table, grown_fits, grown_clean}
+use Rattle.qls_top.proofs.Journals.{silent_arrival}
+use Rattle.qls_top.proofs.Machine.{new_queue, queue_made, queue_stays, HasPut, put_answered, put_state, put_stays}
+use Rattle.qls_top.proofs.Tables.{named, same-self, queue_named-with_queue, queue_named-name, log_named-set}
 
 pub if_some : (P Q : Content → Type 0) (o : Option Content) → IfSome o P → ((c : Content) → P c → Q c) → IfSome o Q
 if_some P Q None h f = tt
 if_some P Q (Some c) h f = f c h
 
--- the machine takes the command, so the queue isn't there
-pub queue_lacking : (S T : MachineState) (name : List ℕ) → (T, Done) ≡ step S (command.Queue name None) → queue_named name S.queues ≡ None
-queue_lacking S T name h = (made_state S T name (queue_named name S.queues) refl (h ∙ queue_step S name (queue_named name S.queues) refl)).0
-
--- ---- a command that calls nothing
-
 pub tells_same : (R : Content → Content → Type 0) (P : Content → Type 0) (o : Option Content) → IfSome o P → ((c : Content) → P c → R c c) → Tells R o o
 tells_same R P None h r = tt
 tells_same R P (Some c) h r = r c h
 
-pub runs_nothing : (was : Session) (command : Option Command) (s : Session) (answer : Answer) (c : Content) → (s.state, answer) ≡ answer_built s.home.kib was.state command → s.files.items ≡ was.files.items → FitsSession s c
-    → RunsCommand was command s answer c c
-runs_nothing was command s answer c stepped files fits = record {
+-- a call from what was known before it
+pub tells_with : (R Q : Content → Content → Type 0) (P : Content → Type 0) (a b : Option Content) → IfSome a P → Tells R a b → ((x y : Content) → P x → R x y → Q x y) → Tells Q a b
+tells_with R Q P None None p r f = tt
+tells_with R Q P None (Some y) p r f = absurd r
+tells_with R Q P (Some x) None p r f = absurd r
+tells_with R Q P (Some x) (Some y) p r f = f x y p r
+
+-- ---- a command that calls nothing
+
+pub runs_nothing : (was : Session) (command : Option Command) (s : Session) (reply : Reply) (c : Content) → (s.state, reply) ≡ answer_built was.state command → s.state ≡ was.state → s.pool ≡ was.pool
+    → s.queues.items ≡ was.queues.items → FitsSession was c → RunsCommand was command s reply c c
+runs_nothing was command s reply c stepped state pool queues fits = record {
   stepped = stepped;
   arrives = Arrives-none IsSilentStep c;
   quiet = λ q. q;
-  fits = fits;
-  clean = λ unmarked clean. subst (λ (fs : List QueueFile). IsCleanTable fs c.now.disk) (sym files) clean;
+  fits = subst (λ (p : PoolState). Fits p s.queues.items c.now.disk) (sym pool) (subst (λ (qs : List QueueLog). Fits was.pool qs c.now.disk) (sym queues) fits);
+  clean = λ unmarked clean. subst (λ (S : MachineState). IsCleanTable S s.queues.items c.now.disk) (sym state) (subst (λ (qs : List QueueLog). IsCleanTable was.state qs c.now.disk) (sym queues) clean);
 }
 
--- the session with its parts as they were
-same_fits : (was s : Session) (c : Content) → s.home ≡ was.home → s.state ≡ was.state → s.pool ≡ was.pool → s.files.items ≡ was.files.items → FitsSession was c → FitsSession s c
-same_fits was s c at_home state in_pool files fits =
-    subst (λ (p : PoolId). Fits p s.state s.pool s.files.items c) (sym at_home)
-    (subst (λ (U : MachineState). Fits was.home U s.pool s.files.items c) (sym state)
-    (subst (λ (p : PoolState). Fits was.home was.state p s.files.items c) (sym in_pool) (subst (λ (fs : List QueueFile). Fits was.home was.state was.pool fs c) (sym files) fits)))
+pub same_logs : (was s : Session) → s.home ≡ was.home → s.state ≡ was.state → s.queues.items ≡ was.queues.items → HasLogs was → HasLogs s
+same_logs was s home state queues logs =
+    subst (λ (p : PoolId). IsTable p s.state s.queues.items) (sym home) (subst (λ (S : MachineState). IsTable was.home S s.queues.items) (sym state) (subst (λ (qs : List QueueLog). IsTable was.home was.state qs) (sym queues) logs))
 
--- the machine refused the queue: it is there
-queue_refused_in : (was s : Session) (name : List ℕ) (r : Reply) (c : Content) → (r ≡ Done → ⊥) → s.home ≡ was.home → s.pool ≡ was.pool → s.files.items ≡ was.files.items → FitsSession was c
-    → (s.state, r) ≡ step was.state (command.Queue name None) → RunsCommand was (Some (command.Queue name None)) s (Plain r) c c
-queue_refused_in was s name r c not_done at_home in_pool files fits h =
-    let S : MachineState = was.state in
-    let state : s.state ≡ S = refused_by (queue_named name S.queues) (h ∙ queue_step S name (queue_named name S.queues) refl) in
-    runs_nothing was (Some (command.Queue name None)) s (Plain r) c (ap plain h ∙ sym (queue_plain s.home.kib S name)) files (same_fits was s c at_home state in_pool files fits)
-  where
-    refused_by : (o : Option QueueState) → (s.state, r) ≡ after_queue was.state name o → s.state ≡ was.state
-    refused_by None e = absurd (not_done (ap (λ p. p.1) e))
-    refused_by (Some q) e = ap (λ p. p.0) e
+-- ---- a new queue
 
-pub queue_refused : (was s : Session) (name : List ℕ) (r : Reply) (o : Option Content) → (r ≡ Done → ⊥) → s.home ≡ was.home → s.pool ≡ was.pool → s.files.items ≡ was.files.items → IfSome o (FitsSession was)
-    → (s.state, r) ≡ step was.state (command.Queue name None) → Tells (RunsCommand was (Some (command.Queue name None)) s (Plain r)) o o
-queue_refused was s name r o not_done at_home in_pool files fits h =
-    tells_same (RunsCommand was (Some (command.Queue name None)) s (Plain r)) (FitsSession was) o fits (λ c f. queue_refused_in was s name r c not_done at_home in_pool files f h)
+module _ (home : PoolId) (S T : MachineState) (queues : List QueueLog) (name : List ℕ) (t : QueueLog) (table : IsTable home S queues) (h : (T, Done) ≡ step S (command.Queue name None)) (at : t.name ≡ name)
+    (log : IsLogOf home name 0 [] t.log) where
+  lacks : log_named name queues ≡ None
+  lacks = Rattle.qls_top.proofs.Fitting.paired_none home (log_named name queues) (queue_named name S.queues) (queue_made S T name h).0 (table name)
+
+  keeps : Keeps home t (new_queue name)
+  keeps = record { name = at; log = log }
+
+  pub made_table : IsTable home T (queues ++ t ∷ [])
+  made_table =
+      grown_table home S T queues (queues ++ t ∷ []) name t (new_queue name) table (λ n. entry_after queues t name n at lacks)
+      (λ n. ap (λ (U : MachineState). queue_named n U.queues) (queue_made S T name h).1 ∙ queue_named-with_queue n (new_queue name) S.queues (queue_made S T name h).0) keeps
+
+  pub made_fits : (pools new_pools : PoolState) (a b : Content) → Fits pools queues a.now.disk → MakesLog (opening_of home name) t.log new_pools a b → Fits new_pools (queues ++ t ∷ []) b.now.disk
+  made_fits pools new_pools a b fits made =
+      grown_fits home S T queues (queues ++ t ∷ []) name t (new_queue name) table (λ n. entry_after queues t name n at lacks)
+      (λ n. ap (λ (U : MachineState). queue_named n U.queues) (queue_made S T name h).1 ∙ queue_named-with_queue n (new_queue name) S.queues (queue_made S T name h).0) pools new_pools a b fits made.stands
+
+  pub made_clean : (new_pools : PoolState) (a b : Content) (made : MakesLog (opening_of home name) t.log new_pools a b) → Rattle.qls_meaning.specs.History.AllUnmarked a.now made.stands.arrives.since → IsCleanTable S queues a.now.disk
+      → IsCleanTable T (queues ++ t ∷ []) b.now.disk
+  made_clean new_pools a b made unmarked clean =
+      grown_clean home S T queues (queues ++ t ∷ []) name t (new_queue name) table (λ n. entry_after queues t name n at lacks)
+      (λ n. ap (λ (U : MachineState). queue_named n U.queues) (queue_made S T name h).1 ∙ queue_named-with_queue n (new_queue name) S.queues (queue_made S T name h).0) new_pools a b made.stands
+      (record { reads = []; read = made.begins unmarked; records = refl }) clean
+
+pub queue_run : (was s : Session) (name : List ℕ) (t : QueueLog) (pool : PoolState) (a b : Content) → HasLogs was → FitsSession was a → (s.state, Done) ≡ step was.state (command.Queue name None) → t.name ≡ name
+    → IsLogOf was.home name 0 [] t.log → MakesLog (opening_of was.home name) t.log pool a b → s.pool ≡ pool → s.queues.items ≡ was.queues.items ++ t ∷ [] → RunsCommand was (Some (command.Queue name None)) s Done a b
+queue_run was s name t pool a b table fits h at log made pools queues = record {
+  stepped = h;
+  arrives = silent_arrival (opening_of was.home name) refl a b made.stands.arrives;
+  quiet = made.stands.quiet;
+  fits =
+      subst (λ (p : PoolState). Fits p s.queues.items b.now.disk) (sym pools)
+      (subst (λ (qs : List QueueLog). Fits pool qs b.now.disk) (sym queues) (made_fits was.home was.state s.state was.queues.items name t table h at log was.pool pool a b fits made));
+  clean = λ unmarked clean.
+      subst (λ (qs : List QueueLog). IsCleanTable s.state qs b.now.disk) (sym queues) (made_clean was.home was.state s.state was.queues.items name t table h at log pool a b made unmarked clean);
+}
+
+pub queue_logs : (was s : Session) (name : List ℕ) (t : QueueLog) → HasLogs was → (s.state, Done) ≡ step was.state (command.Queue name None) → t.name ≡ name → IsLogOf was.home name 0 [] t.log
+    → s.home ≡ was.home → s.queues.items ≡ was.queues.items ++ t ∷ [] → HasLogs s
+queue_logs was s name t table h at log home queues =
+    subst (λ (p : PoolId). IsTable p s.state s.queues.items) (sym home) (subst (λ (qs : List QueueLog). IsTable was.home s.state qs) (sym queues) (made_table was.home was.state s.state was.queues.items name t table h at log))
+
+-- what a new queue asks of the site
+pub may_make : (was : Session) (T : MachineState) (name : List ℕ) (c : Content) → HasLogs was → FitsSession was c → (T, Done) ≡ step was.state (command.Queue name None) → MayMake was.home name was.pool c
+may_make was T name c table fits h = record {
+  pool = fits.pool;
+  limit = fits.limit;
+  none = no_journal was.home was.state was.pool was.queues.items c.now.disk table fits name (queue_made was.state T name h).0;
+}
+
+pub making_ends : (was : Session) (T : MachineState) (name : List ℕ) (a b : Content) → (T, Done) ≡ step was.state (command.Queue name None) → EndsMaking was.home name a b
+    → StopsAtEnd was.home was.state (Some (command.Queue name None)) a b
+making_ends was T name a b h ends = record {
+  arrives = silent_arrival (opening_of was.home name) refl a b ends.arrives;
+  meets = inl (record { name = name; makes = refl; accepted = (queue_made was.state T name h).0; spent = ends.spent });
+}
 
 -- ---- a put
 
--- the file of an entry is in use
-pub may_write : (was : Session) (name : List ℕ) (t : QueueFile) (c : Content) → entry_named name was.files.items ≡ Some t → FitsSession was c → MayWrite t.id c
-may_write was name t c there fits =
-    let found = paired was.home c.now.disk (entry_named name was.files.items) (queue_named name was.state.queues) t there (fits.pairs name) in
-    record { differ = fits.pool.0; used = ap is_file_in_use found.2.there ∙ ap is_in_use found.2.in_use }
+written-append : (ms : List Message) (m : Message) → written (ms ++ m ∷ []) ≡ written ms + block_of m
+written-append [] m = omega arith
+written-append (x ∷ ms) m = ap (λ n. block_of x + n) (written-append ms m) ∙ omega arith
 
--- a put that the machine refused changed nothing, and had no queue
-refused_state : (S T : MachineState) (name body : List ℕ) (r : Reply) → queue_named name S.queues ≡ None → (T, r) ≡ step S (command.Put name body None) → T ≡ S
-refused_state S T name body r e h = ap (λ p. p.0) (h ∙ put_refused S name body e)
+module _ (home : PoolId) (S T : MachineState) (queues : List QueueLog) (name body : List ℕ) (n at : ℕ) (t dflt : QueueLog) (table : IsTable home S queues) (put : HasPut S T name body n)
+    (range : at < length queues) (there : get_or queues at dflt ≡ t) (entry : log_named name queues ≡ Some t) (first : log_named name (take at queues) ≡ None) where
+  abbrev pub message : Message
+  message = record { number = n; body = body; status = Ready }
 
-put_nowhere_in : (was s : Session) (name body : List ℕ) (r : Reply) (c : Content) → entry_named name was.files.items ≡ None → s.home ≡ was.home → s.pool ≡ was.pool → s.files.items ≡ was.files.items
-    → FitsSession was c → (s.state, r) ≡ step was.state (command.Put name body None) → RunsCommand was (Some (command.Put name body None)) s (Plain r) c c
-put_nowhere_in was s name body r c none at_home in_pool same fits h =
-    let S : MachineState = was.state in
-    let missing : queue_named name S.queues ≡ None = no_queue (entry_named name was.files.items) (queue_named name S.queues) none (fits.pairs name) in
-    let state = refused_state S s.state name body r missing h in
-    runs_nothing was (Some (command.Put name body None)) s (Plain r) c (ap plain h ∙ sym (put_nowhere s.home.kib S name body missing)) same (same_fits was s c at_home state in_pool same fits)
-  where
-    no_queue : (o : Option QueueFile) (p : Option QueueState) → o ≡ None → Pairs was.home c.now.disk o p → p ≡ None
-    no_queue None None e k = refl
-    no_queue None (Some q) e k = absurd k
-    no_queue (Some t) p e k = absurd (cc)
+  pub put_keeps : Keeps home t put.queue
+  put_keeps =
+      let pair = paired home (log_named name queues) (queue_named name S.queues) t entry (table name) in
+      subst (Keeps home t) (some_is (sym pair.1 ∙ put.there)) pair.2
+    where
+      some_is : {A : Type 0} {x y : A} → Some x ≡ Some y → x ≡ y
+      some_is e = cc
 
--- the queue isn't in the table
-pub put_missing : (was s : Session) (name body : List ℕ) (r : Reply) (o : Option Content) → entry_named name was.files.items ≡ None → s.home ≡ was.home → s.pool ≡ was.pool → s.files.items ≡ was.files.items
-    → IfSome o (FitsSession was) → (s.state, r) ≡ step was.state (command.Put name body None) → Tells (RunsCommand was (Some (command.Put name body None)) s (Plain r)) o o
-put_missing was s name body r o none at_home in_pool same fits h =
-    tells_same (RunsCommand was (Some (command.Put name body None)) s (Plain r)) (FitsSession was) o fits (λ c f. put_nowhere_in was s name body r c none at_home in_pool same f h)
+  abbrev pub name_is : put.queue.name ≡ name
+  name_is = named put.queue.name name (queue_named-name name S.queues put.queue put.there)
 
--- the last number of a queue with an entry is far from its end
-not_spent : (home : PoolId) (d : Disk) (t : QueueFile) (q : QueueState) → Keeps home d t q → eqb q.last (2 ^ 62 - 1) ≡ false
-not_spent home d t q k = not_eqb q.last (2 ^ 62 - 1) (few_messages home d t q k)
-  where
-    not_eqb : (m n : ℕ) → m < n → eqb m n ≡ false
-    not_eqb m n h = grind arith
+  -- what a put asks of the log
+  pub may_write : MayWrite n t.log
+  may_write = let k = put_keeps.log in record { unended = k.unended; flushed = k.flushed; sound = k.sound; next = put.number ∙ sym (ap (λ x. x + 1) k.rid) }
 
-filled : (kib used b m : ℕ) → used ≡ m → kib / 4 < b ⊎ (kib / 4 - b < used) → ltb (kib / 4) (m + b) ≡ true
-filled kib used b m e (inl h) = lt-ltb (kib / 4) (m + b) (omega (arith, h, e))
-filled kib used b m e (inr h) = lt-ltb (kib / 4) (m + b) (omega (arith, h, e))
+  pub opening_is : t.log.opening ≡ opening_of home name
+  opening_is = put_keeps.log.opening ∙ ap (opening_of home) name_is
 
-unfilled : (kib used b m : ℕ) → used ≡ m → b ≤ kib / 4 → used ≤ kib / 4 - b → ltb (kib / 4) (m + b) ≡ false
-unfilled kib used b m e h k = le-not-lt (kib / 4) (m + b) (omega (arith, h, k, e))
-  where
-    le-not-lt : (x y : ℕ) → y ≤ x → ltb x y ≡ false
-    le-not-lt x y h = grind arith
+  abbrev grown_entry : LogState → QueueLog
+  grown_entry l = record t { log = l }
 
-full_in : (was s : Session) (name body : List ℕ) (t : QueueFile) (c : Content) → entry_named name was.files.items ≡ Some t → s.home ≡ was.home → s.state ≡ was.state → s.pool ≡ was.pool → s.files.items ≡ was.files.items
-    → FitsSession was c → (was.home.kib / 4 < blocks (length body)) ⊎ (was.home.kib / 4 - blocks (length body) < t.used) → RunsCommand was (Some (command.Put name body None)) s Full c c
-full_in was s name body t c there at_home state in_pool same fits h =
-    let found = paired was.home c.now.disk (entry_named name was.files.items) (queue_named name was.state.queues) t there (fits.pairs name) in
-    let q = found.0 in
-    let k = found.2 in
-    let answer = put_full was.home.kib was.state name body q found.1 (not_spent was.home c.now.disk t q k) (filled was.home.kib t.used (blocks (length body)) (blocks_of q.messages) k.used h) in
-    runs_nothing was (Some (command.Put name body None)) s Full c
-    ((λ i. (state i, Full)) ∙ sym (ap (λ (p : PoolId). answer_built p.kib was.state (Some (command.Put name body None))) at_home ∙ answer)) same (same_fits was s c at_home state in_pool same fits)
+  abbrev next_queue : QueueState
+  next_queue = with_message (put_message (put.queue.last + 1) body None) put.queue
 
--- the file has no room
-pub put_filled : (was s : Session) (name body : List ℕ) (t : QueueFile) (o : Option Content) → entry_named name was.files.items ≡ Some t → s.home ≡ was.home → s.state ≡ was.state → s.pool ≡ was.pool
-    → s.files.items ≡ was.files.items → IfSome o (FitsSession was) → (was.home.kib / 4 < blocks (length body)) ⊎ (was.home.kib / 4 - blocks (length body) < t.used)
-    → Tells (RunsCommand was (Some (command.Put name body None)) s Full) o o
-put_filled was s name body t o there at_home state in_pool same fits h =
-    tells_same (RunsCommand was (Some (command.Put name body None)) s Full) (FitsSession was) o fits (λ c f. full_in was s name body t c there at_home state in_pool same f h)
+  message_is : message ≡ put_message (put.queue.last + 1) body None
+  message_is = ap (λ x. put_message x body None) put.number
 
--- the reply is the queue's next number
-put_number : (S T : MachineState) (name body : List ℕ) (n : ℕ) (q : QueueState) → queue_named name S.queues ≡ Some q → eqb q.last (2 ^ 62 - 1) ≡ false → (T, Number n) ≡ step S (command.Put name body None)
-    → (n ≡ q.last + 1) × (T ≡ record S { queues = change_queue name (with_message (put_message (q.last + 1) body None)) S.queues })
-put_number S T name body n q e last h =
-    let is = h ∙ put_step 0 S name body q e last in
-    (number (ap (λ p. p.1) is), ap (λ p. p.0) is)
-  where
-    number : Number n ≡ Number (q.last + 1) → n ≡ q.last + 1
-    number e = cc
+  entries : (l : LogState) (m : List ℕ) → log_named m (set queues at (grown_entry l)) ≡ cond (Rattle.qls_model.specs.Bytes.same name m) (Some (grown_entry l)) (log_named m queues)
+  entries l m = let at_name : t.name ≡ name = put_keeps.name ∙ name_is in log_named-set m name queues at (grown_entry l) dflt range (ap (λ (u : QueueLog). u.name) there ∙ at_name) at_name first
 
-module _ (was s : Session) (name body : List ℕ) (at : ℕ) (t dflt : QueueFile) (n : ℕ) where
-  abbrev S : MachineState
-  S = was.state
+  states : (m : List ℕ) → queue_named m T.queues ≡ cond (Rattle.qls_model.specs.Bytes.same name m) (Some next_queue) (queue_named m S.queues)
+  states m =
+      ap (λ (U : MachineState). queue_named m U.queues) put.state ∙ queue_after_change name m (with_message (put_message (put.queue.last + 1) body None)) S.queues put.queue (λ r. refl) put.there
 
-  abbrev files : List QueueFile
-  files = was.files.items
-
-  written_in : (old new : Content) → at < length files → get_or files at dflt ≡ t → entry_named name files ≡ Some t → entry_named name (take at files) ≡ None
-      → FitsSession was old → length body ≤ 1048576 → blocks (length body) ≤ was.home.kib / 4 → t.used ≤ was.home.kib / 4 - blocks (length body)
-      → (s.state, Number n) ≡ step S (command.Put name body None) → WritesBlock t.id (4096 + t.used * 4096) (block_bytes t.serial n body) old new
-      → s.home ≡ was.home → s.pool ≡ was.pool → s.files.items ≡ set files at (record t { used = t.used + blocks (length body) }) → RunsCommand was (Some (command.Put name body None)) s (Plain (Number n)) old new
-  written_in old new range get there first fits size b1 b2 stepped wrote at_home in_pool same =
-      let found = paired was.home old.now.disk (entry_named name files) (queue_named name S.queues) t there (fits.pairs name) in
-      let q = found.0 in
-      let k = found.2 in
-      let last = not_spent was.home old.now.disk t q k in
-      let is = put_number S s.state name body n q found.1 last stepped in
-      let disk = ap (λ (m : Moment). m.disk) wrote.now in
-      let written : new.now.disk ≡ sync_at t.id (write_at t.id (4096 + t.used * 4096) (block_bytes t.serial (q.last + 1) body) old.now.disk) =
-      subst (λ (m : ℕ). new.now.disk ≡ sync_at t.id (write_at t.id (4096 + t.used * 4096) (block_bytes t.serial m body) old.now.disk)) is.0 disk in
-      let answer = put_room was.home.kib S name body q found.1 last (unfilled was.home.kib t.used (blocks (length body)) (blocks_of q.messages) k.used b1 b2) in
+  grown_keeps : (l : LogState) → HasWritten message t.log l → Keeps home (grown_entry l) next_queue
+  grown_keeps l w =
+      let k = put_keeps.log in
+      let total = written-append put.queue.messages (put_message (put.queue.last + 1) body None) in
+      let size : block_of message ≡ block_of (put_message (put.queue.last + 1) body None) = ap block_of message_is in
+      let capacity : capacity_in l.opening ≡ capacity_in t.log.opening = ap capacity_in w.opening in
       record {
-        stepped = ap plain stepped ∙ sym (ap (λ (p : PoolId). answer_built p.kib S (Some (command.Put name body None))) at_home ∙ answer);
-        arrives = wrote.arrives;
-        quiet = λ q. subst (λ (m : Moment). IsQuiet m.disk) (sym wrote.now) (quiet-written t.id (4096 + t.used * 4096) (block_bytes t.serial n body) old.now.disk q);
-        fits =
-            subst (λ (p : PoolId). Fits p s.state s.pool s.files.items new) (sym at_home)
-            (subst (λ (U : MachineState). Fits was.home U s.pool s.files.items new) (sym is.1)
-            (subst (λ (p : PoolState). Fits was.home (record S { queues = change_queue name (with_message (put_message (q.last + 1) body None)) S.queues }) p s.files.items new) (sym in_pool)
-            (subst (λ (fs : List QueueFile). Fits was.home (record S { queues = change_queue name (with_message (put_message (q.last + 1) body None)) S.queues }) was.pool fs new) (sym same)
-            (fits_put was.home S was.pool files old new name body at t dflt q fits range get there first found.1 k size (omega (arith, b1, b2)) written))));
-        clean = λ unmarked clean.
-            subst (λ (fs : List QueueFile). IsCleanTable fs new.now.disk) (sym same)
-            (clean_put was.home S was.pool files old new name body at t dflt q fits range get there first found.1 k size (omega (arith, b1, b2)) written clean);
+        name = put_keeps.name;
+        log = record {
+          opening = w.opening ∙ k.opening;
+          unended = w.unended;
+          flushed = w.flushed;
+          sound = w.sound;
+          rid = w.rid ∙ put.number;
+          blocks = ap (λ x. l.used + x * l.newest) capacity ∙ w.blocks ∙ omega (arith, k.blocks, total, size) ∙ ap (λ x. x + written (put.queue.messages ++ put_message (put.queue.last + 1) body None ∷ [])) (sym capacity);
+        };
       }
 
-  -- the block was written
-  pub put_written : (old new : Option Content) → at < length files → get_or files at dflt ≡ t → entry_named name files ≡ Some t → entry_named name (take at files) ≡ None
-      → IfSome old (FitsSession was) → length body ≤ 1048576 → blocks (length body) ≤ was.home.kib / 4 → t.used ≤ was.home.kib / 4 - blocks (length body)
-      → (s.state, Number n) ≡ step S (command.Put name body None) → Tells (WritesBlock t.id (4096 + t.used * 4096) (block_bytes t.serial n body)) old new
-      → s.home ≡ was.home → s.pool ≡ was.pool → s.files.items ≡ set files at (record t { used = t.used + blocks (length body) })
-      → Tells (RunsCommand was (Some (command.Put name body None)) s (Plain (Number n))) old new
-  put_written None None range get there first fits size b1 b2 stepped wrote at_home in_pool same = tt
-  put_written None (Some e) range get there first fits size b1 b2 stepped wrote at_home in_pool same = absurd wrote
-  put_written (Some c) None range get there first fits size b1 b2 stepped wrote at_home in_pool same = absurd wrote
-  put_written (Some c) (Some e) range get there first fits size b1 b2 stepped wrote at_home in_pool same = written_in c e range get there first fits size b1 b2 stepped wrote at_home in_pool same
+  pub put_table : (l : LogState) → HasWritten message t.log l → IsTable home T (set queues at (grown_entry l))
+  put_table l w = grown_table home S T queues (set queues at (grown_entry l)) name (grown_entry l) next_queue table (entries l) states (grown_keeps l w)
+
+  own_stands : (l : LogState) (new_pools : PoolState) (a b : Content) → Stands t.log.opening l new_pools a b → Stands (opening_of home name) l new_pools a b
+  own_stands l new_pools a b h = subst (λ (o : Opening). Stands o l new_pools a b) opening_is h
+
+  pub put_fits : (l : LogState) (pools new_pools : PoolState) (a b : Content) → Fits pools queues a.now.disk → Stands t.log.opening l new_pools a b → Fits new_pools (set queues at (grown_entry l)) b.now.disk
+  put_fits l pools new_pools a b fits h = grown_fits home S T queues (set queues at (grown_entry l)) name (grown_entry l) next_queue table (entries l) states pools new_pools a b fits (own_stands l new_pools a b h)
+
+  reads_more : (reads more : List Read) → map (λ (x : Read). x.what) reads ≡ all_records put.queue.messages → map (λ (x : Read). x.what) more ≡ records_of message
+      → map (λ (x : Read). x.what) (reads ++ more) ≡ all_records next_queue.messages
+  reads_more reads more a b =
+      map-append (λ (x : Read). x.what) reads more ∙ (λ i. a i ++ b i) ∙ ap (λ (m : Message). all_records put.queue.messages ++ records_of m) message_is
+      ∙ sym (flat_map-append records_of put.queue.messages (put_message (put.queue.last + 1) body None ∷ []) ∙ ap (λ (rs : List Record). all_records put.queue.messages ++ rs) (append-nil (records_of (put_message (put.queue.last + 1) body None))))
+
+  pub put_clean : (l : LogState) (new_pools : PoolState) (a b : Content) (w : WritesMessage message t.log l new_pools a b) → Rattle.qls_meaning.specs.History.AllUnmarked a.now w.stands.arrives.since → IsCleanTable S queues a.now.disk
+      → IsCleanTable T (set queues at (grown_entry l)) b.now.disk
+  put_clean l new_pools a b w unmarked clean =
+      let r = reads_there a.now.disk (log_named name queues) (queue_named name S.queues) t put.queue entry put.there (clean name) in
+      let more = w.reads unmarked r.reads r.read in
+      grown_clean home S T queues (set queues at (grown_entry l)) name (grown_entry l) next_queue table (entries l) states new_pools a b (own_stands l new_pools a b w.stands)
+      (record { reads = r.reads ++ more.0; read = more.1; records = reads_more r.reads more.0 r.records more.2 }) clean
+
+  -- ---- where no file is left
+
+  room_less : (cap nn newest used blocks : ℕ) → used + cap * newest ≡ cap + blocks → cap * nn - blocks ≤ cap * (nn - newest) + (cap - used)
+  room_less cap nn newest used blocks h = less (cap * nn) (cap * (nn - newest)) (cap * newest) h (spread (nn - newest) (mul-le-mul_left cap (omega arith)))
+    where
+      spread : (x : ℕ) → cap * nn ≤ cap * (x + newest) → cap * nn ≤ cap * x + cap * newest
+      spread x h = subst (λ y. cap * nn ≤ y) (mul-add cap x newest) h
+
+      less : (a x y : ℕ) → used + y ≡ cap + blocks → a ≤ x + y → a - blocks ≤ x + (cap - used)
+      less a x y h k = omega (arith, h, k)
+
+  abbrev batch_left : PoolId → Disk → List Headed → Bool
+  batch_left home d files = no_file_left home d || newest_number files == last_count || (not true && greatest_epoch files == last_count)
+
+  still_ends : (d : Disk) (files : List Headed) (left less needed : ℕ) → less ≤ left → batch_meets_end home d files true left needed ≡ true → batch_meets_end home d files true less needed ≡ true
+  still_ends d files left less needed h e =
+      let parts = and_parts (ltb left needed) (batch_left home d files) e in
+      both (lt-ltb less needed (omega (arith, h, ltb-true left needed parts.0))) parts.1
+    where
+      both : {a b : Bool} → a ≡ true → b ≡ true → (a && b) ≡ true
+      both a b = λ i. a i && b i
+
+  abbrev room : Opening → Disk → ℕ
+  room o d = capacity_in o * (newest_number (files_on o d) - t.log.newest) + (capacity_in o - t.log.used)
+
+  less : (d : Disk) → room_left home put.queue d ≤ room (opening_of home put.queue.name) d
+  less d =
+      let k = put_keeps.log in
+      let nn : ℕ = newest_number (files_on (opening_of home put.queue.name) d) in
+      let cap : ℕ = home.kib * 1024 in
+      let blocks : t.log.used + cap * t.log.newest ≡ cap + written put.queue.messages =
+      subst (λ (o : Opening). t.log.used + capacity_in o * t.log.newest ≡ capacity_in o + written put.queue.messages) k.opening k.blocks in
+      subst (λ x. x * nn - written put.queue.messages ≤ cap * (nn - t.log.newest) + (cap - t.log.used)) (turned home.kib) (room_less cap nn t.log.newest t.log.used (written put.queue.messages) blocks)
+    where
+      turned : (x : ℕ) → x * 1024 ≡ 1024 * x
+      turned x = omega arith
+
+  pub writing_ends : (a b : Content) → EndsWriting message t.log a b → StopsAtEnd home S (Some (command.Put name body None)) a b
+  writing_ends a b ends =
+      let k = put_keeps.log in
+      let d : Disk = b.now.disk in
+      record {
+        arrives = silent_arrival t.log.opening (ap (λ (o : Opening). o.epoch) opening_is) a b ends.arrives;
+        meets = inr (record {
+          name = name;
+          body = body;
+          queue = put.queue;
+          puts = refl;
+          there = put.there;
+          more = put.more;
+          spent = still_ends d (files_on (opening_of home put.queue.name) d) (room (opening_of home put.queue.name) d) (room_left home put.queue d) (block_of (put_message (put.queue.last + 1) body None)) (less d)
+              (subst (λ (m : Message). batch_meets_end home d (files_on (opening_of home put.queue.name) d) true (room (opening_of home put.queue.name) d) (block_of m) ≡ true) message_is
+              (subst (λ (o : Opening). batch_meets_end o.home d (files_on o d) true (room o d) (block_of message) ≡ true) k.opening ends.spent));
+        });
+      }
+
+-- ---- a put that is run
+
+module _ (was s : Session) (name body : List ℕ) (n at : ℕ) (t dflt : QueueLog) (table : HasLogs was) (put : HasPut was.state s.state name body n) (range : at < length was.queues.items)
+    (there : get_or was.queues.items at dflt ≡ t) (entry : log_named name was.queues.items ≡ Some t) (first : log_named name (take at was.queues.items) ≡ None) where
+  pub put_run : (l : LogState) (pool : PoolState) (a b : Content) → FitsSession was a → (s.state, Number n) ≡ step was.state (command.Put name body None)
+      → WritesMessage (record { number = n; body = body; status = Ready }) t.log l pool a b → s.pool ≡ pool → s.queues.items ≡ set was.queues.items at (record t { log = l })
+      → RunsCommand was (Some (command.Put name body None)) s (Number n) a b
+  put_run l pool a b fits h w pools queues = record {
+    stepped = h;
+    arrives = silent_arrival t.log.opening (ap (λ (o : Opening). o.epoch) (opening_is was.home was.state s.state was.queues.items name body n at t dflt table put range there entry first)) a b w.stands.arrives;
+    quiet = w.stands.quiet;
+    fits =
+        subst (λ (p : PoolState). Fits p s.queues.items b.now.disk) (sym pools)
+        (subst (λ (qs : List QueueLog). Fits pool qs b.now.disk) (sym queues) (put_fits was.home was.state s.state was.queues.items name body n at t dflt table put range there entry first l was.pool pool a b fits w.stands));
+    clean = λ unmarked clean.
+        subst (λ (qs : List QueueLog). IsCleanTable s.state qs b.now.disk) (sym queues) (put_clean was.home was.state s.state was.queues.items name body n at t dflt table put range there entry first l pool a b w unmarked clean);
+  }
+
+  pub put_logs : (l : LogState) → HasWritten (record { number = n; body = body; status = Ready }) t.log l → s.home ≡ was.home → s.queues.items ≡ set was.queues.items at (record t { log = l }) → HasLogs s
+  put_logs l w home queues =
+      subst (λ (p : PoolId). IsTable p s.state s.queues.items) (sym home)
+      (subst (λ (qs : List QueueLog). IsTable was.home s.state qs) (sym queues) (put_table was.home was.state s.state was.queues.items name body n at t dflt table put range there entry first l w))
+
+-- the entry that a search found
+pub entry_is : (name : List ℕ) (seen queues : List QueueLog) (at : ℕ) (t : QueueLog) → seen ≡ queues → log_named name seen ≡ slice_get seen at → at < length seen → t ≡ get_or queues at t → log_named name queues ≡ Some t
+entry_is name seen queues at t same found range is =
+    ap (log_named name) (sym same) ∙ found ∙ slice_get-get_or seen at t range ∙ ap (λ (qs : List QueueLog). Some (get_or qs at t)) same ∙ ap Some (sym is)
+
+-- there is one where the machine has the queue
+pub no_entry : (home : PoolId) (S T : MachineState) (queues seen : List QueueLog) (name body : List ℕ) (n : ℕ) → IsTable home S queues → HasPut S T name body n → seen ≡ queues → log_named name seen ≡ None → ⊥
+no_entry home S T queues seen name body n table put same none =
+    let pair = paired_queue home (log_named name queues) (queue_named name S.queues) put.queue put.there (table name) in
+    not_some pair.0 (sym none ∙ ap (log_named name) same ∙ pair.1)
+  where
+    not_some : (t : QueueLog) → None ≡ Some t → ⊥
+    not_some t e = cc

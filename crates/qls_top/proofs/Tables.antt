@@ -9,10 +9,8 @@ use Rattle.std.proofs.lemmas.List.Folds.{find-append}
 use Rattle.qls_model.specs.Bytes.{same, comes_before}
 use Rattle.qls_model.specs.declared.machine.QueueState.{QueueState}
 use Rattle.qls_model.specs.Machine.{queue_named, with_queue, change_queue}
-use Rattle.qls_site.specs.Disk.{Disk, FileState, IsQuiet, file_of, with_file, changed, write_at, sync_at, all_written}
-use Rattle.qls_site.proofs.Told.{file_of-change_file}
-use Rattle.qls_top.specs.declared.files.QueueFile.{QueueFile}
-use Rattle.qls_top.specs.Table.{entry_named}
+use Rattle.qls_top.specs.declared.queues.QueueLog.{QueueLog}
+use Rattle.qls_top.specs.Table.{log_named}
 
 -- ---- names
 
@@ -86,105 +84,53 @@ pub queue_named-name : (n : List ℕ) (qs : List QueueState) (r : QueueState) �
 queue_named-name n [] r h = absurd (cc)
 queue_named-name n (q ∷ qs) r h = name_found n q r (same q.name n) (queue_named n qs) refl (queue_named-name n qs r) h
 
--- ---- files
-
-pub file_of-with_file_any : (k : ℕ) (f : FileState) (d : Disk) → file_of f.id d ≡ None → file_of k (with_file f d) ≡ cond (eqb f.id k) (Some f) (file_of k d)
-file_of-with_file_any k f [] h = refl
-file_of-with_file_any k f (g ∷ d) h =
-    elim (ltb f.id g.id) as (λ b. file_of k (cond b (f ∷ g ∷ d) (g ∷ with_file f d)) ≡ cond (eqb f.id k) (Some f) (file_of k (g ∷ d))) [
-      | true ↦ refl
-      | false ↦
-          ap (cond (eqb g.id k) (Some g)) (file_of-with_file_any k f d (found_later (eqb g.id f.id) g (file_of f.id d) h))
-          ∙ either (eqb g.id k) (eqb f.id k) g f (file_of k d) (λ a b. found_first (eqb g.id f.id) g (file_of f.id d) (eq-eqb g.id f.id (eqb-true g.id k a ∙ sym (eqb-true f.id k b))) h)
-    ]
-
-pub quiet-with_file : (f : FileState) (d : Disk) → f.pending ≡ [] → IsQuiet d → IsQuiet (with_file f d)
-quiet-with_file f [] p q = (p, tt)
-quiet-with_file f (g ∷ d) p q =
-    elim (ltb f.id g.id) as (λ b. IsQuiet (cond b (f ∷ g ∷ d) (g ∷ with_file f d))) [
-      | true ↦ (p, q)
-      | false ↦ (q.0, quiet-with_file f d p q.1)
-    ]
-
-abbrev pub with_write : ℕ → List ℕ → FileState → FileState
-with_write at bytes f = record f { pending = f.pending ++ (record { at = at; bytes = bytes }) ∷ [] }
-
-abbrev pub with_sync : FileState → FileState
-with_sync f = record f { stable = all_written f.pending f.stable; pending = [] }
-
-quiet_step : (id at : ℕ) (bytes : List ℕ) (f : FileState) (b : Bool) → eqb f.id id ≡ b → f.pending ≡ [] → (changed id with_sync (cond b (with_write at bytes f) f)).pending ≡ []
-quiet_step id at bytes f true e p = ap (λ c. (cond c (with_sync (with_write at bytes f)) (with_write at bytes f)).pending) e
-quiet_step id at bytes f false e p = ap (λ c. (cond c (with_sync f) f).pending) e ∙ p
-
--- a write that is synced leaves nothing pending
-pub quiet-written : (id at : ℕ) (bytes : List ℕ) (d : Disk) → IsQuiet d → IsQuiet (sync_at id (write_at id at bytes d))
-quiet-written id at bytes [] q = tt
-quiet-written id at bytes (f ∷ d) q = (quiet_step id at bytes f (eqb f.id id) refl q.0, quiet-written id at bytes d q.1)
-
--- the file of an id after a write that is synced
-pub file_of-written : (k id at : ℕ) (bytes : List ℕ) (d : Disk) → file_of k (sync_at id (write_at id at bytes d)) ≡ option_map (changed id with_sync) (option_map (changed id (with_write at bytes)) (file_of k d))
-file_of-written k id at bytes d =
-    file_of-change_file k id with_sync (λ f. refl) (write_at id at bytes d) ∙ ap (option_map (changed id with_sync)) (file_of-change_file k id (with_write at bytes) (λ f. refl) d)
-
--- the file that is found has the id
-pub file_of-id : (k : ℕ) (d : Disk) (f : FileState) → file_of k d ≡ Some f → f.id ≡ k
-file_of-id k [] f h = absurd (cc)
-file_of-id k (g ∷ d) f h = id_found k g f (eqb g.id k) (file_of k d) refl (file_of-id k d f) h
-  where
-    id_found : (k : ℕ) (g f : FileState) (b : Bool) (rest : Option FileState) → eqb g.id k ≡ b → (rest ≡ Some f → f.id ≡ k) → cond b (Some g) rest ≡ Some f → f.id ≡ k
-    id_found k g f true rest e h found = sym (some_id g f found) ∙ eqb-true g.id k e
-      where
-        some_id : (g f : FileState) → Some g ≡ Some f → g.id ≡ f.id
-        some_id g f e = cc
-    id_found k g f false rest e h found = h found
-
 -- ---- the table
 
-pub entry_named-push : (n : List ℕ) (files : List QueueFile) (t : QueueFile) → entry_named n (files ++ t ∷ []) ≡ option_or (entry_named n files) (cond (same t.name n) (Some t) None)
-entry_named-push n files t = find-append (λ u. same u.name n) files (t ∷ [])
+pub log_named-push : (n : List ℕ) (files : List QueueLog) (t : QueueLog) → log_named n (files ++ t ∷ []) ≡ option_or (log_named n files) (cond (same t.name n) (Some t) None)
+log_named-push n files t = find-append (λ u. same u.name n) files (t ∷ [])
 
-set_head : (n name : List ℕ) (u t : QueueFile) (rest : Option QueueFile) → u.name ≡ name → t.name ≡ name → (b : Bool) → same name n ≡ b
+set_head : (n name : List ℕ) (u t : QueueLog) (rest : Option QueueLog) → u.name ≡ name → t.name ≡ name → (b : Bool) → same name n ≡ b
     → cond (same t.name n) (Some t) rest ≡ cond b (Some t) (cond (same u.name n) (Some u) rest)
 set_head n name u t rest eu et true e = ap (λ m. cond (same m n) (Some t) rest) et ∙ ap (λ b. cond b (Some t) rest) e
 set_head n name u t rest eu et false e = ap (λ m. cond (same m n) (Some t) rest) et ∙ ap (λ b. cond b (Some t) rest) e ∙ sym (ap (λ m. cond (same m n) (Some u) rest) eu ∙ ap (λ b. cond b (Some u) rest) e)
 
-pub entry_named-set : (n name : List ℕ) (files : List QueueFile) (at : ℕ) (t d : QueueFile) → at < length files → (get_or files at d).name ≡ name → t.name ≡ name
-    → entry_named name (take at files) ≡ None → entry_named n (set files at t) ≡ cond (same name n) (Some t) (entry_named n files)
-entry_named-set n name [] at t d h g e none = absurd (omega arith)
-entry_named-set n name (u ∷ us) zero t d h g e none = set_head n name u t (entry_named n us) g e (same name n) refl
-entry_named-set n name (u ∷ us) (suc at) t d h g e none =
-    ap (cond (same u.name n) (Some u)) (entry_named-set n name us at t d (omega arith) g e (found_later (same u.name name) u (entry_named name (take at us)) none))
-    ∙ either (same u.name n) (same name n) u t (entry_named n us) (λ a b. found_first (same u.name name) u (entry_named name (take at us)) (meet u.name name n a b) none)
+pub log_named-set : (n name : List ℕ) (files : List QueueLog) (at : ℕ) (t d : QueueLog) → at < length files → (get_or files at d).name ≡ name → t.name ≡ name
+    → log_named name (take at files) ≡ None → log_named n (set files at t) ≡ cond (same name n) (Some t) (log_named n files)
+log_named-set n name [] at t d h g e none = absurd (omega arith)
+log_named-set n name (u ∷ us) zero t d h g e none = set_head n name u t (log_named n us) g e (same name n) refl
+log_named-set n name (u ∷ us) (suc at) t d h g e none =
+    ap (cond (same u.name n) (Some u)) (log_named-set n name us at t d (omega arith) g e (found_later (same u.name name) u (log_named name (take at us)) none))
+    ∙ either (same u.name n) (same name n) u t (log_named n us) (λ a b. found_first (same u.name name) u (log_named name (take at us)) (meet u.name name n a b) none)
 
 -- the first entry of the name is at this place
-here_step : (b : Bool) (u : QueueFile) (front rest : Option QueueFile) (there : Option QueueFile) → cond b (Some u) front ≡ None → (front ≡ None → rest ≡ there) → cond b (Some u) rest ≡ there
+here_step : (b : Bool) (u : QueueLog) (front rest : Option QueueLog) (there : Option QueueLog) → cond b (Some u) front ≡ None → (front ≡ None → rest ≡ there) → cond b (Some u) rest ≡ there
 here_step true u front rest there h k = absurd (cc)
 here_step false u front rest there h k = k h
 
-pub find_here : (name : List ℕ) (files : List QueueFile) (i : ℕ) (t : QueueFile) → i < length files → t ≡ get_or files i t → entry_named name (take i files) ≡ None → same t.name name ≡ true
-    → entry_named name files ≡ slice_get files i
+pub find_here : (name : List ℕ) (files : List QueueLog) (i : ℕ) (t : QueueLog) → i < length files → t ≡ get_or files i t → log_named name (take i files) ≡ None → same t.name name ≡ true
+    → log_named name files ≡ slice_get files i
 find_here name [] i t h e none is = absurd (omega arith)
-find_here name (u ∷ us) zero t h e none is = ap (λ b. cond b (Some u) (entry_named name us)) (ap (λ (v : QueueFile). same v.name name) (sym e) ∙ is)
+find_here name (u ∷ us) zero t h e none is = ap (λ b. cond b (Some u) (log_named name us)) (ap (λ (v : QueueLog). same v.name name) (sym e) ∙ is)
 find_here name (u ∷ us) (suc i) t h e none is =
-    here_step (same u.name name) u (entry_named name (take i us)) (entry_named name us) (slice_get us i) none (λ n. find_here name us i t (omega arith) e n is)
+    here_step (same u.name name) u (log_named name (take i us)) (log_named name us) (slice_get us i) none (λ n. find_here name us i t (omega arith) e n is)
 
 -- an entry of another name is passed over
-pub find_more : (name : List ℕ) (files : List QueueFile) (i : ℕ) (t : QueueFile) → i < length files → t ≡ get_or files i t → entry_named name (take i files) ≡ None → same t.name name ≡ false
-    → entry_named name (take (suc i) files) ≡ None
+pub find_more : (name : List ℕ) (files : List QueueLog) (i : ℕ) (t : QueueLog) → i < length files → t ≡ get_or files i t → log_named name (take i files) ≡ None → same t.name name ≡ false
+    → log_named name (take (suc i) files) ≡ None
 find_more name [] i t h e none is = absurd (omega arith)
-find_more name (u ∷ us) zero t h e none is = ap (λ b. cond b (Some u) None) (ap (λ (v : QueueFile). same v.name name) (sym e) ∙ is)
+find_more name (u ∷ us) zero t h e none is = ap (λ b. cond b (Some u) None) (ap (λ (v : QueueLog). same v.name name) (sym e) ∙ is)
 find_more name (u ∷ us) (suc i) t h e none is =
-    here_step (same u.name name) u (entry_named name (take i us)) (entry_named name (take (suc i) us)) None none (λ n. find_more name us i t (omega arith) e n is)
+    here_step (same u.name name) u (log_named name (take i us)) (log_named name (take (suc i) us)) None none (λ n. find_more name us i t (omega arith) e n is)
 
-entry_found : (n : List ℕ) (t u : QueueFile) (b : Bool) (rest : Option QueueFile) → same t.name n ≡ b → (rest ≡ Some u → same u.name n ≡ true) → cond b (Some t) rest ≡ Some u → same u.name n ≡ true
-entry_found n t u true rest e h found = ap (λ (o : Option QueueFile). named_by o) (sym found) ∙ e
+entry_found : (n : List ℕ) (t u : QueueLog) (b : Bool) (rest : Option QueueLog) → same t.name n ≡ b → (rest ≡ Some u → same u.name n ≡ true) → cond b (Some t) rest ≡ Some u → same u.name n ≡ true
+entry_found n t u true rest e h found = ap (λ (o : Option QueueLog). named_by o) (sym found) ∙ e
   where
-    named_by : Option QueueFile → Bool
+    named_by : Option QueueLog → Bool
     named_by None = false
     named_by (Some x) = same x.name n
 entry_found n t u false rest e h found = h found
 
 -- the entry that is found has the name
-pub entry_named-name : (n : List ℕ) (files : List QueueFile) (u : QueueFile) → entry_named n files ≡ Some u → same u.name n ≡ true
-entry_named-name n [] u h = absurd (cc)
-entry_named-name n (t ∷ ts) u h = entry_found n t u (same t.name n) (entry_named n ts) refl (entry_named-name n ts u) h
+pub log_named-name : (n : List ℕ) (files : List QueueLog) (u : QueueLog) → log_named n files ≡ Some u → same u.name n ≡ true
+log_named-name n [] u h = absurd (cc)
+log_named-name n (t ∷ ts) u h = entry_found n t u (same t.name n) (log_named n ts) refl (log_named-name n ts u) h

@@ -6,6 +6,7 @@ pub mod Stored
 pub mod Moments
 pub mod Serials
 pub mod Table
+pub mod Ends
 pub mod Causes
 pub mod Steps
 pub mod Sessions

@@ -1,36 +1,12 @@
--- The moments that a call adds, each with the one before it.
-use Rattle.std.specs.Prelude.{◌≡◌, ◌⊎◌, ℕ, List, [], ◌∷◌, ◌++◌, Result, Ok, Err}
+-- The steps of a run, from each moment to the next.
+use Rattle.std.specs.Prelude.{◌≡◌, ◌⊎◌, ℕ, List, [], ◌∷◌}
 use Rattle.qls_site.specs.Disk.{IsQuiet}
 use Rattle.qls_site.specs.Content.{Moment, Content, moments_since, on_answered}
 use Rattle.qls_meaning.specs.History.{AllUnmarked}
-use Rattle.qls_pool.specs.Discipline.{IsPoolStep, IsFirstTaken}
-
--- R from each moment to the next
-abbrev pub Chain : (Moment → Moment → Type 0) → Moment → List Moment → Type 0
-Chain R m [] = Unit {0}
-Chain R m (n ∷ ns) = R m n × Chain R n ns
-
-abbrev pub last_moment : Moment → List Moment → Moment
-last_moment m [] = m
-last_moment m (n ∷ ns) = last_moment n ns
-
--- the call added moments, each by R from the one before
-pub record Passes (R : Moment → Moment → Type 0) (old new : Content) : Type 0 where
-  pub since : List Moment
-  pub moments : new.moments ≡ old.moments ++ since
-  pub chain : Chain R old.now since
-
--- and the last of them is the one that is now
-pub record Arrives (R : Moment → Moment → Type 0) (old new : Content) : Type 0 where
-  pub since : List Moment
-  pub moments : new.moments ≡ old.moments ++ since
-  pub chain : Chain R old.now since
-  pub last : new.now ≡ last_moment old.now since
-
--- by the answer: at Ok the one, for what was answered, at an error the other
-abbrev pub EndsIn : {X E C : Type 0} → (X → C → C → Type 0) → (C → C → Type 0) → Result X E → C → C → Type 0
-EndsIn done failed (Ok x) old new = done x old new
-EndsIn done failed (Err e) old new = failed old new
+use Rattle.qls_pool.specs.Discipline.{IsPoolStep}
+use Rattle.qls_pool.specs.Moments.{Passes}
+use Rattle.qls_pool.specs.Next.{Epochs, IsNextTaken, HeadersStay}
+use Rattle.qls_pool.specs.Files.{IdsDiffer}
 
 -- where bytes were answered nothing is pending
 abbrev pub Quietly : Moment → Moment → Type 0
@@ -46,16 +22,22 @@ AddsAnswer bytes old new =
 abbrev pub AtReplies : (Moment → Type 0) → Moment → Moment → Type 0
 AtReplies P m n = (n.answered ≡ m.answered) ⊎ P n
 
--- from a moment of a run to the next: a file is made, comes into use and is written as the pool has it, and is the first of its journal
+-- the files of a store that this run began are of its first epoch
+abbrev pub first_epochs : Epochs
+first_epochs kind name = 1
+
+-- From a moment of a run to the next: a file is made, comes into use and is written as the pool has it, and is the next of its journal;
+-- headers of files in use stay, and no two files get one id
 pub record IsRunStep (m n : Moment) : Type 0 where
+  pub differ : IdsDiffer m.disk → IdsDiffer n.disk
   pub pool : IsPoolStep m n
-  pub first : IsFirstTaken m n
+  pub next : IsNextTaken first_epochs m n
+  pub headers : HeadersStay m n
 
 -- and while a command is at work nothing is answered
 pub record IsSilentStep (m n : Moment) : Type 0 where
   pub answered : n.answered ≡ m.answered
-  pub pool : IsPoolStep m n
-  pub first : IsFirstTaken m n
+  pub step : IsRunStep m n
 
 -- where nothing was pending at the start, bytes are answered while nothing is
 abbrev pub AnswersQuietly : Content → Content → Type 0

@@ -3,25 +3,25 @@ use Rattle.std.specs.Prelude.{◌≡◌, ℕ, ◌+◌, ◌≤◌, Bool, true, fa
 use Rattle.std.specs.List.{list_any, AllByRecursion}
 use Rattle.qls_model.specs.declared.machine.PoolId.{PoolId}
 use Rattle.qls_model.specs.declared.machine.Command.{Command}
-use Rattle.qls_model.specs.declared.machine.Command.TheVariants as command
-use Rattle.qls_model.specs.Machine.{MachineState, empty_state, queue_named}
+use Rattle.qls_model.specs.Machine.{MachineState, empty_state}
 use Rattle.qls_shape.specs.Claims.{each}
 use Rattle.qls_site.specs.Disk.{Image, IsQuiet, full}
 use Rattle.qls_site.specs.Content.{Content, Moment, moments_since}
 use Rattle.qls_meaning.specs.Journals.{in_use, empties}
 use Rattle.qls_meaning.specs.Damage.{id_claim, pool_claim}
-use Rattle.qls_meaning.specs.Spent.{new_journal_meets_end}
 use Rattle.qls_pool.specs.Discipline.{TakesInOrder}
+use Rattle.qls_pool.specs.Moments.{Chain}
 use Rattle.qls_command.specs.Lines.{commands}
 use Rattle.qls_top.specs.declared.fault.Fault.{Fault}
 use Rattle.qls_top.specs.declared.fault.Fault.TheVariants as fault
 use Rattle.qls_top.specs.declared.words.Job.{Job}
 use Rattle.qls_top.specs.declared.words.Job.TheVariants.{Run}
 use Rattle.qls_top.specs.declared.session.Session.{Session}
-use Rattle.qls_top.specs.Answers.{state_answered, answers_text}
+use Rattle.qls_top.specs.Answers.{built_line, state_answered, answers_text}
 use Rattle.qls_top.specs.Cutting.{script_limit}
 use Rattle.qls_top.specs.Stored.{IsStored}
-use Rattle.qls_top.specs.Moments.{Chain, AtReplies, UnmarkedSince}
+use Rattle.qls_top.specs.Ends.{MeetsItsEnd}
+use Rattle.qls_top.specs.Moments.{AtReplies, UnmarkedSince}
 use Rattle.qls_top.specs.Sessions.{IsCleanSession}
 
 -- ---- a script that was run to its end
@@ -29,8 +29,8 @@ use Rattle.qls_top.specs.Sessions.{IsCleanSession}
 -- From the state S on every line is answered. Where nothing was pending at the start and the files that came into use were unmarked,
 -- the disk holds the machine's state after all lines
 pub record IsRun (home : PoolId) (S : MachineState) (script : List ℕ) (old new : Content) : Type 0 where
-  pub answered : new.now.answered ≡ old.now.answered ++ answers_text home.kib S (commands script)
-  pub stored : IsQuiet old.now.disk → UnmarkedSince old new → IsStored home (state_answered home.kib S (commands script)) new.now.disk
+  pub answered : new.now.answered ≡ old.now.answered ++ answers_text S (commands script)
+  pub stored : IsQuiet old.now.disk → UnmarkedSince old new → IsStored home (state_answered S (commands script)) new.now.disk
 
 -- where site and source tell: the source was read to its end, and all of the script was run
 abbrev pub EndsFrom : PoolId → MachineState → Option Content → Option Content → Option (List ℕ) → Option (List ℕ) → Type 0
@@ -62,8 +62,8 @@ ForJob (Some (Run home)) P = P home
 pub record IsUnderWay (home : PoolId) (S : MachineState) (script rest : List ℕ) (s : Session) (old new : Content) : Type 0 where
   pub done : List (Option Command)
   pub split : commands script ≡ done ++ commands rest
-  pub answered : new.now.answered ≡ old.now.answered ++ answers_text home.kib S done
-  pub state : s.state ≡ state_answered home.kib S done
+  pub answered : new.now.answered ≡ old.now.answered ++ answers_text S done
+  pub state : s.state ≡ state_answered S done
 
 abbrev pub UnderWay : PoolId → MachineState → Option Content → Option Content → Option (List ℕ) → List ℕ → Option (List ℕ) → Session → Type 0
 UnderWay home S (Some old) (Some new) (Some script) waiting (Some left) s = IsUnderWay home S script (waiting ++ left) s old new
@@ -78,16 +78,14 @@ StaysClean was s old new = UnmarkedSince old new → IsCleanSession was old → 
 
 -- ---- a run that ends since no file is left
 
--- The commands before are answered, the next one makes a queue that isn't there, and for its file there is neither an empty one in the
--- pool nor an id
+-- the commands before are answered, and the next one needs a file that can't be had on the disk as it is
 pub record MeetsEnd (home : PoolId) (S : MachineState) (script : List ℕ) (old new : Content) : Type 0 where
   pub done : List (Option Command)
-  pub name : List ℕ
+  pub next : Option Command
   pub rest : List (Option Command)
-  pub split : commands script ≡ done ++ Some (command.Queue name None) ∷ rest
-  pub answered : new.now.answered ≡ old.now.answered ++ answers_text home.kib S done
-  pub accepted : queue_named name (state_answered home.kib S done).queues ≡ None
-  pub spent : new_journal_meets_end home new.now.disk ≡ true
+  pub split : commands script ≡ done ++ next ∷ rest
+  pub answered : new.now.answered ≡ old.now.answered ++ answers_text S done
+  pub meets : MeetsItsEnd home (state_answered S done) (built_line next) new.now.disk
 
 abbrev pub SpentFrom : PoolId → MachineState → Option Content → Option Content → Option (List ℕ) → Type 0
 SpentFrom home S (Some old) (Some new) (Some script) = MeetsEnd home S script old new
@@ -108,8 +106,8 @@ pub record IsReplied (home : PoolId) (S : MachineState) (script before : List �
   pub done : List (Option Command)
   pub rest : List (Option Command)
   pub split : commands script ≡ done ++ rest
-  pub answered : n.answered ≡ before ++ answers_text home.kib S done
-  pub stored : IsStored home (state_answered home.kib S done) n.disk
+  pub answered : n.answered ≡ before ++ answers_text S done
+  pub stored : IsStored home (state_answered S done) n.disk
 
 abbrev pub RepliesIn : PoolId → MachineState → List ℕ → Content → Content → Type 0
 RepliesIn home S script old new = Chain (AtReplies (IsReplied home S script old.now.answered)) old.now (moments_since old new)

@@ -1,6 +1,6 @@
 //! What ends a run before its script is read to the end.
+use qls_log::LogError;
 use qls_model::NoMemory;
-use qls_pool::TakeFault;
 use qls_scan::ScanFault;
 use qls_site::{DrawError, SiteError, SourceError};
 use std::alloc::{AllocError, AllocFailed};
@@ -18,7 +18,7 @@ pub enum Fault {
     TooLong,
     /// No serial could be drawn.
     Draw,
-    /// A new file was needed, and neither an empty one nor an id was left for it.
+    /// A new file was needed, and no number was left for it, or neither an empty file nor an id.
     Spent,
     /// The site held a file in use at the start, or one that breaks the rules of ids and of empty files.
     NotEmpty,
@@ -113,18 +113,18 @@ impl From<SiteError> for Fault {
     }
 }
 
-impl From<TakeFault> for Fault {
+impl From<LogError> for Fault {
     ghost use Rattle.std.specs.Prelude.{◌≡◌};
-    ghost use Rattle.qls_top.specs.Status.{fault_of_take};
+    ghost use Rattle.qls_top.specs.Status.{fault_of_log};
 
-    ghost from_gives = { λ error fault. fault ≡ fault_of_take error };
+    ghost from_gives = { λ error fault. fault ≡ fault_of_log error };
 
-    fn from(error: TakeFault) -> Fault {
+    fn from(error: LogError) -> Fault {
         match error {
-            TakeFault::Failed => Fault::Site,
-            TakeFault::Draw => Fault::Draw,
-            TakeFault::Spent => Fault::Spent,
-            TakeFault::Memory => Fault::Memory,
+            LogError::Failed => Fault::Site,
+            LogError::Draw => Fault::Draw,
+            LogError::Spent => Fault::Spent,
+            LogError::Memory => Fault::Memory,
         }
     }
 }

@@ -1,10 +1,8 @@
 //! The top call: a script of commands, run on a site.
 #![tactic(auto)]
 
-mod answer;
-mod block;
 mod fault;
-mod files;
+mod queues;
 mod script;
 mod session;
 mod words;
@@ -14,13 +12,14 @@ ghost use Rattle.std.specs.String.{string_bytes};
 ghost use Rattle.qls_model.specs.Limits.{is_kib, is_partition};
 ghost use Rattle.qls_site.specs.Content.{Tells, Rose};
 ghost use Rattle.qls_top.specs.Words.{job_of};
-ghost use Rattle.qls_top.specs.Moments.{Passes, AnswersQuietly, IsRunStep};
-ghost use Rattle.qls_top.specs.Serials.{DrawsTaken, is_exact};
+ghost use Rattle.qls_pool.specs.Moments.{Passes};
+ghost use Rattle.qls_pool.specs.Serials.{DrawsTaken};
+ghost use Rattle.qls_top.specs.Moments.{AnswersQuietly, IsRunStep};
+ghost use Rattle.qls_top.specs.Serials.{is_exact};
 ghost use Rattle.qls_top.specs.Run.{ForJob, RunsToEnd, ReadsBytes, Starts, is_too_long, is_status, StartsWith, MayNotBegin, EndsClean, RepliesStored, RepliesClean, IfJob, EndsSpent, EndsSpentIn, TakesFilesInOrder, is_exact_status};
-ghost use Rattle.qls_top.specs.Sessions.{FitsSession};
+ghost use Rattle.qls_top.specs.Sessions.{HasLogs, FitsSession};
 ghost use Rattle.qls_top.specs.Status.{IsOfLines};
 
-pub use answer::{Answer, answer_text};
 pub use fault::Fault;
 use qls_model::PoolId;
 use qls_pool::Pool;
@@ -34,8 +33,8 @@ pub use words::{Job, parse_words, status_line};
 /// Runs the job that the words ask for, and answers its status.
 ///
 /// For `DIR run PART KIB` the site has no file in use at the start, and its empty files keep the rules of ids and pools.
-/// Each line of the source is run and answered, before the next one is read, where nothing fails. A queue's file is
-/// taken from the pool of PART and KIB, and is created only where that pool is empty.
+/// Each line of the source is run and answered, before the next one is read, where nothing fails. A queue's journal grows
+/// by files from the pool of PART and KIB; one is created only where that pool is empty.
 ///
 /// | status | comes |
 /// |---|---|
@@ -46,7 +45,7 @@ pub use words::{Job, parse_words, status_line};
 /// | 6 | memory was wanting |
 /// | 7 | exactly where byte 67,108,865 of the script was read |
 /// | 8 | only where the serials' count of faults rose |
-/// | 9 | a queue was to be made, its pool had no file, and no id below 2^62 was left for one |
+/// | 9 | a journal needed a file, and no number below 2^62 was left for it, or neither an empty file nor an id |
 /// | 10 | the site had a file in use, or one whose id or pool isn't within the limits; nothing changed |
 pub fn run<R: Source, S: Site, N: Serials>(
     alloc: Global,
@@ -92,7 +91,7 @@ fn run_script<R: Source, S: Site, N: Serials>(
 ) -> Result<(), Fault>
     requires pool { (is_partition home.part ≡ true) × (is_kib home.kib ≡ true) }
     ensures done { IfOk result (λ _. RunsToEnd home (S.told site.old) (S.told site.new) (R.left source.old) (R.left source.new)) }
-    ensures went { Tells (Passes IsRunStep) (S.told site.old) (S.told site.new) }
+    ensures orderly { Tells TakesFilesInOrder (S.told site.old) (S.told site.new) }
     ensures quiet { Tells AnswersQuietly (S.told site.old) (S.told site.new) }
     ensures replied { RepliesStored home (S.told site.old) (S.told site.new) (R.left source.old) }
     ensures drawn { DrawsTaken (is_exact result) (S.told site.old) (S.told site.new) (N.drawn serials.old) (N.drawn serials.new) }
@@ -121,6 +120,7 @@ fn run_lines<R: Source, S: Site, N: Serials>(
     serials: &mut N,
 ) -> Result<(), Fault>
     requires pool { (is_partition session.old.home.part ≡ true) × (is_kib session.old.home.kib ≡ true) }
+    requires logs { HasLogs session.old }
     requires fits { IfSome (S.told site.old) (FitsSession session.old) }
     ensures done { IfOk result (λ _. EndsClean session.old (S.told site.old) (S.told site.new) (R.left source.old) (R.left source.new)) }
     ensures went { Tells (Passes IsRunStep) (S.told site.old) (S.told site.new) }

@@ -1,18 +1,11 @@
 use Rattle.std.proofs.Common.{◌≡◌, refl, sym, Ok, Err, ap, ◌∙◌, subst}
-use Rattle.qls_top.specs.Serials.{DrawsTaken}
+use Rattle.qls_pool.specs.Serials.{DrawsTaken}
 use Rattle.qls_top.specs.Run.{is_exact_status}
-use Rattle.qls_top.proofs.Chains.{went_in_order}
 use Rattle.qls_top.proofs.Lines.{starts_with, status_same, exact_status, spent_status, may_not_begin}
 use Rattle.qls_top.proofs.run.Goals as goal
 
-pub returns-in-Ok-clause-orderly : goal.returns-in-Ok-clause-orderly
-returns-in-Ok-clause-orderly g c = went_in_order _ _ c.in-Ok.ensures.went
-
 pub returns-in-Ok-clause-not_empty : goal.returns-in-Ok-clause-not_empty
 returns-in-Ok-clause-not_empty g c = starts_with 0 (Ok c.in-Ok.field-0) (g.S.Site.told c.args.site.now) (g.S.Site.told c.run_script.new.site) c.in-Ok.ensures.starts refl
-
-pub returns-in-Err-clause-orderly : goal.returns-in-Err-clause-orderly
-returns-in-Err-clause-orderly g c = went_in_order _ _ c.in-Err.ensures.went
 
 pub returns-in-Err-clause-drawn : goal.returns-in-Err-clause-drawn
 returns-in-Err-clause-drawn g c =

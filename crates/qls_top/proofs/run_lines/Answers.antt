@@ -7,8 +7,10 @@ use Rattle.qls_site.specs.Content.{Tells}
 use Rattle.qls_command.specs.Lines.{command_of}
 use Rattle.qls_top.specs.Cutting.{CutsTold, script_limit}
 use Rattle.qls_top.specs.Moments.{IsRunStep}
-use Rattle.qls_top.specs.Serials.{is_exact, DrawsTaken}
-use Rattle.qls_top.specs.Sessions.{RunsLine, RepliesLine, NeedsFile}
+use Rattle.qls_pool.specs.Serials.{DrawsTaken}
+use Rattle.qls_top.specs.Serials.{is_exact}
+use Rattle.qls_top.specs.Ends.{StopsAtEnd}
+use Rattle.qls_top.specs.Sessions.{RunsLine, RepliesLine}
 use Rattle.qls_top.proofs.Chains.{went_then, went_of}
 use Rattle.qls_top.proofs.CutLines.{counted_then}
 use Rattle.qls_top.proofs.Drawing.{drawn_then, drawn_any}
@@ -24,6 +26,7 @@ loop-line-preserved g c =
     let command = command_of c.next_line.new.line.items in
     record {
       home = c.in_ok-run_line.ensures.home ∙ i.home;
+      logs = c.in_ok-run_line.ensures.logs;
       fits = line_fits c.loop-line.session command c.run_line.new.self (g.S.Site.told c.loop-line.site) _ ran;
       went = line_went c.loop-line.session command c.run_line.new.self _ (g.S.Site.told c.loop-line.site) _ i.went ran;
       quieted = line_quieted c.loop-line.session c.run_line.new.self command _ (g.S.Site.told c.loop-line.site) _ i.quieted ran c.in_ok-run_line.ensures.quiet;
@@ -62,8 +65,9 @@ returns-in_err-run_line-clause-spent g c = λ e.
     let is : c.run_line.result ≡ Err fault.Spent = search (rules, c.from_residual-in_err-run_line.ensures, c.in_err-run_line.was, e) in
     let cut = subst (λ (b : Bool). CutsTold c.loop-line.script (g.R.Source.left c.loop-line.source) c.next_line.new.self (g.R.Source.left c.next_line.new.source) c.next_line.new.line.items b) c.if-branch.true c.in_ok-next_line.ensures.cut in
     line_spent c.args.session.now.home c.args.session.now.state _ (g.S.Site.told c.loop-line.site) _ _ (g.R.Source.left c.loop-line.source) _ c.loop-line.script c.next_line.new.self c.next_line.new.line.items c.loop-line.session script_limit
-    i.home i.under_way i.counted i.fits cut (ap g.S.Site.told (c.run_line.ensures.no_call is))
-    (subst (λ (bytes : List ℕ). NeedsFile c.loop-line.session (built_line (command_of bytes))) c.deref.ensures.value (c.run_line.ensures.spent is))
+    i.home i.under_way i.counted cut
+    (subst (λ (bytes : List ℕ). Tells (StopsAtEnd c.loop-line.session.home c.loop-line.session.state (built_line (command_of bytes))) (g.S.Site.told c.loop-line.site) (g.S.Site.told c.run_line.new.site)) c.deref.ensures.value
+    (c.run_line.ensures.spent is))
 
 pub returns-in_err-run_line-clause-too_long : goal.returns-in_err-run_line-clause-too_long
 returns-in_err-run_line-clause-too_long g c =
@@ -86,4 +90,4 @@ returns-clause-done g c =
     let i = c.loop-line.invariant in
     let cut = subst (λ (b : Bool). CutsTold c.loop-line.script (g.R.Source.left c.loop-line.source) c.next_line.new.self (g.R.Source.left c.next_line.new.source) c.next_line.new.line.items b) c.if-branch.false c.in_ok-next_line.ensures.cut in
     script_ended c.args.session.now.home c.args.session.now.state _ _ _ (g.R.Source.left c.loop-line.source) _ c.loop-line.script c.next_line.new.self c.next_line.new.line.items c.args.session.now c.loop-line.session i.home refl refl
-    i.under_way i.fits (quieted_rests _ _ i.quieted) i.clean cut
+    i.under_way i.logs i.fits (quieted_rests _ _ i.quieted) i.clean cut

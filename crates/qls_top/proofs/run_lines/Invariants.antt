@@ -1,16 +1,18 @@
 use Rattle.std.proofs.Common.{◌≡◌, ◌≤◌, true, Ok, IfSome}
 use Rattle.qls_site.specs.Content.{Tells}
 use Rattle.qls_top.specs.Cutting.{Counted, measured, script_limit}
-use Rattle.qls_top.specs.Moments.{Arrives, IsRunStep}
-use Rattle.qls_top.specs.Serials.{DrawsTaken}
+use Rattle.qls_pool.specs.Moments.{Arrives}
+use Rattle.qls_top.specs.Moments.{IsRunStep}
+use Rattle.qls_pool.specs.Serials.{DrawsTaken}
 use Rattle.qls_top.specs.Run.{UnderWay, StaysClean, RepliesClean}
-use Rattle.qls_top.specs.Sessions.{FitsSession}
+use Rattle.qls_top.specs.Sessions.{HasLogs, FitsSession}
 use Rattle.qls_top.proofs.Lines.{Quieted}
 use Rattle.qls_top.proofs.run_lines.Given as goal
 
 abbrev pub invariant-loop-line : goal.invariant-loop-line
 invariant-loop-line g l = record {
   home : l.session.home ≡ l.fn.session.home;
+  logs : HasLogs l.session;
   fits : IfSome (g.S.Site.told l.site) (FitsSession l.session);
   went : Tells (Arrives IsRunStep) (g.S.Site.told l.fn.site) (g.S.Site.told l.site);
   quieted : Tells Quieted (g.S.Site.told l.fn.site) (g.S.Site.told l.site);

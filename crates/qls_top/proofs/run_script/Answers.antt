@@ -5,17 +5,18 @@ use Rattle.qls_pool.specs.Files.{IsPoolOf}
 use Rattle.qls_top.specs.declared.fault.Fault.{Fault}
 use Rattle.qls_top.specs.declared.fault.Fault.TheVariants as fault
 use Rattle.qls_top.specs.Status.{fault_of_scan}
-use Rattle.qls_top.specs.Serials.{is_exact, DrawsTaken}
+use Rattle.qls_pool.specs.Serials.{DrawsTaken}
+use Rattle.qls_top.specs.Serials.{is_exact}
 use Rattle.qls_top.specs.Run.{Starts, RunsToEnd, EndsClean}
 use Rattle.qls_top.proofs.Drawing.{drawn_none}
-use Rattle.qls_top.proofs.Beginning.{Looked, looked, looked_passes, looked_quietly, looked_none, lines_pass, lines_quiet, lines_drawn, if_ok, run_done, run_spent, fits_started, starts_scanned, starts_used, starts_wanting, starts_ready}
+use Rattle.qls_top.proofs.Beginning.{Looked, looked, looked_in_order, looked_quietly, looked_none, lines_in_order, lines_quiet, lines_drawn, if_ok, run_done, run_spent, fits_started, logs_started, starts_scanned, starts_used, starts_wanting, starts_ready}
 use Rattle.qls_top.proofs.Replying.{run_replies, looked_replies}
 use Rattle.qls_top.proofs.run_script.Goals as goal
 
 -- ---- the scan ended it
 
-pub returns-in_err-found-clause-went : goal.returns-in_err-found-clause-went
-returns-in_err-found-clause-went g c = looked_passes _ _ (looked _ _ c.scan.ensures.rising c.scan.ensures.told)
+pub returns-in_err-found-clause-orderly : goal.returns-in_err-found-clause-orderly
+returns-in_err-found-clause-orderly g c = looked_in_order _ _ c.scan.ensures.rising (looked _ _ c.scan.ensures.rising c.scan.ensures.told)
 
 pub returns-in_err-found-clause-quiet : goal.returns-in_err-found-clause-quiet
 returns-in_err-found-clause-quiet g c = looked_quietly _ _ (looked _ _ c.scan.ensures.rising c.scan.ensures.told)
@@ -31,8 +32,8 @@ returns-in_err-found-clause-starts g c =
 
 -- ---- a file is in use
 
-pub returns-then-as_slice-gt0-clause-went : goal.returns-then-as_slice-gt0-clause-went
-returns-then-as_slice-gt0-clause-went g c = looked_passes _ _ (looked _ _ c.scan.ensures.rising c.scan.ensures.told)
+pub returns-then-as_slice-gt0-clause-orderly : goal.returns-then-as_slice-gt0-clause-orderly
+returns-then-as_slice-gt0-clause-orderly g c = looked_in_order _ _ c.scan.ensures.rising (looked _ _ c.scan.ensures.rising c.scan.ensures.told)
 
 pub returns-then-as_slice-gt0-clause-quiet : goal.returns-then-as_slice-gt0-clause-quiet
 returns-then-as_slice-gt0-clause-quiet g c = looked_quietly _ _ (looked _ _ c.scan.ensures.rising c.scan.ensures.told)
@@ -47,8 +48,8 @@ returns-then-as_slice-gt0-clause-starts g c =
 
 -- ---- no memory for the pool
 
-pub returns-in_err-pool-clause-went : goal.returns-in_err-pool-clause-went
-returns-in_err-pool-clause-went g c = looked_passes _ _ (looked _ _ c.scan.ensures.rising c.scan.ensures.told)
+pub returns-in_err-pool-clause-orderly : goal.returns-in_err-pool-clause-orderly
+returns-in_err-pool-clause-orderly g c = looked_in_order _ _ c.scan.ensures.rising (looked _ _ c.scan.ensures.rising c.scan.ensures.told)
 
 pub returns-in_err-pool-clause-quiet : goal.returns-in_err-pool-clause-quiet
 returns-in_err-pool-clause-quiet g c = looked_quietly _ _ (looked _ _ c.scan.ensures.rising c.scan.ensures.told)
@@ -67,17 +68,22 @@ pub run_lines-requires-clause-fits : goal.run_lines-requires-clause-fits
 run_lines-requires-clause-fits g c =
     let none : length c.in_ok-found.found.journals ≡ 0 = omega (arith, c.if-as_slice-gt0.false, ap (λ (js : List JournalFiles). length js) c.as_slice.ensures.same) in
     fits_started c.new-session.result c.in_ok-found.found _ _ c.scan.ensures.rising c.in_ok-found.ensures.found none c.in_ok-found.ensures.sound.greatest (looked _ _ c.scan.ensures.rising c.scan.ensures.told)
-    c.new-session.ensures.state c.new-session.ensures.files (ap (λ p. p.greatest) c.new-session.ensures.pool ∙ c.in_ok-pool.ensures.opened.greatest)
+    c.new-session.ensures.state c.new-session.ensures.queues (ap (λ p. p.greatest) c.new-session.ensures.pool ∙ c.in_ok-pool.ensures.opened.greatest)
     (λ d listing. subst (λ p. IsPoolOf p [] d) (sym c.new-session.ensures.pool) (c.in_ok-pool.ensures.pool d listing))
+
+pub run_lines-requires-clause-logs : goal.run_lines-requires-clause-logs
+run_lines-requires-clause-logs g c = logs_started c.new-session.result c.new-session.ensures.state c.new-session.ensures.queues
 
 pub returns-clause-done : goal.returns-clause-done
 returns-clause-done g c =
     if_ok (EndsClean c.new-session.result (g.S.Site.told c.scan.new.site) (g.S.Site.told c.run_lines.new.site) (g.R.Source.left c.args.source.now) (g.R.Source.left c.run_lines.new.source))
     (RunsToEnd c.args.home (g.S.Site.told c.args.site.now) (g.S.Site.told c.run_lines.new.site) (g.R.Source.left c.args.source.now) (g.R.Source.left c.run_lines.new.source)) c.run_lines.result c.run_lines.ensures.done
-    (run_done c.args.home c.new-session.result _ _ _ _ _ c.new-session.ensures.home c.new-session.ensures.state c.new-session.ensures.files (looked _ _ c.scan.ensures.rising c.scan.ensures.told) c.run_lines.ensures.went)
+    (run_done c.args.home c.new-session.result _ _ _ _ _ c.new-session.ensures.home c.new-session.ensures.state c.new-session.ensures.queues (looked _ _ c.scan.ensures.rising c.scan.ensures.told) c.run_lines.ensures.went)
 
-pub returns-clause-went : goal.returns-clause-went
-returns-clause-went g c = lines_pass _ _ _ (looked _ _ c.scan.ensures.rising c.scan.ensures.told) c.run_lines.ensures.went
+pub returns-clause-orderly : goal.returns-clause-orderly
+returns-clause-orderly g c =
+    let none : length c.in_ok-found.found.journals ≡ 0 = omega (arith, c.if-as_slice-gt0.false, ap (λ (js : List JournalFiles). length js) c.as_slice.ensures.same) in
+    lines_in_order c.in_ok-found.found _ _ _ c.scan.ensures.rising c.in_ok-found.ensures.found none (looked _ _ c.scan.ensures.rising c.scan.ensures.told) c.run_lines.ensures.went
 
 pub returns-clause-quiet : goal.returns-clause-quiet
 returns-clause-quiet g c = lines_quiet _ _ _ (looked _ _ c.scan.ensures.rising c.scan.ensures.told) c.run_lines.ensures.quiet
@@ -105,4 +111,4 @@ returns-in_err-pool-clause-replied g c = looked_replies c.args.home _ _ _ (looke
 
 pub returns-clause-replied : goal.returns-clause-replied
 returns-clause-replied g c =
-    run_replies c.args.home c.new-session.result _ _ _ _ c.new-session.ensures.home c.new-session.ensures.state c.new-session.ensures.files (looked _ _ c.scan.ensures.rising c.scan.ensures.told) c.run_lines.ensures.went c.run_lines.ensures.replied
+    run_replies c.args.home c.new-session.result _ _ _ _ c.new-session.ensures.home c.new-session.ensures.state c.new-session.ensures.queues (looked _ _ c.scan.ensures.rising c.scan.ensures.told) c.run_lines.ensures.went c.run_lines.ensures.replied

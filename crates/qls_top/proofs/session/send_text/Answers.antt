@@ -1,6 +1,7 @@
 use Rattle.std.proofs.Common.{Ok, Err}
-use Rattle.qls_top.specs.Moments.{Passes, AddsAnswer, AnswersQuietly, IsRunStep}
-use Rattle.qls_top.specs.Serials.{TakesNone}
+use Rattle.qls_pool.specs.Moments.{Passes}
+use Rattle.qls_top.specs.Moments.{AddsAnswer, AnswersQuietly, IsRunStep}
+use Rattle.qls_pool.specs.Serials.{TakesNone}
 use Rattle.qls_top.proofs.Lines.{told_answers, of_answers}
 use Rattle.qls_top.proofs.session.send_text.Goals as goal
 

@@ -1,114 +1,156 @@
-use Rattle.std.proofs.Common.{◌≡◌, ◌⊎◌, inl, inr, ◌+◌, ◌-◌, ◌*◌, ◌/◌, ◌%◌, ◌<◌, ℕ, List, Some, None, refl, sym, ap, ◌∙◌, subst, length, take, get_or, arith}
-use Rattle.std.specs.List.{slice_get, slice_set}
+use Rattle.std.proofs.Common.{true, rules, arith, ◌≡◌, ◌+◌, ◌<◌, ◌^◌, ℕ, List, Some, None, IfSome, Err, refl, sym, ap, ◌∙◌, subst, length, take, get_or}
 use Rattle.std.specs.Vec.{with_item}
+use Rattle.qls_model.specs.declared.machine.Message.{Message}
 use Rattle.qls_model.specs.declared.machine.Status.TheVariants.{Ready}
-use Rattle.qls_top.proofs.Fitting.{some_same}
-use Rattle.std.proofs.lemmas.Option.{slice_get-get_or}
 use Rattle.qls_model.specs.declared.machine.Command.{Command}
 use Rattle.qls_model.specs.declared.machine.Command.TheVariants as command
 use Rattle.qls_model.specs.declared.machine.Reply.{Reply}
 use Rattle.qls_model.specs.declared.machine.Reply.TheVariants.{Number}
 use Rattle.qls_model.specs.Machine.{MachineState, step}
-use Rattle.qls_site.specs.Content.{Tells, HasRange}
-use Rattle.qls_top.specs.declared.answer.Answer.TheVariants.{Plain, Full}
-use Rattle.qls_top.specs.Answers.{blocks}
-use Rattle.qls_top.specs.Sessions.{FitsSession, RunsCommand}
-use Rattle.qls_top.specs.Steps.{MayWrite, WritesBlock, block_bytes}
-use Rattle.qls_top.specs.Table.{entry_named}
-use Rattle.qls_top.specs.declared.files.QueueFile.{QueueFile}
+use Rattle.qls_site.specs.Content.{Content, Tells}
+use Rattle.qls_site.proofs.Told.{Tells-weaken}
+use Rattle.qls_pool.specs.Files.{OnDisk}
+use Rattle.qls_pool.specs.Moments.{Passes}
+use Rattle.qls_log.specs.Logs.{LogState}
+use Rattle.qls_log.specs.Standing.{LogThere}
+use Rattle.qls_log.specs.Steps.{IsLogStep}
+use Rattle.qls_log.specs.declared.opening.Opening.{Opening}
+use Rattle.qls_top.specs.declared.fault.Fault.TheVariants as fault
+use Rattle.qls_top.specs.declared.queues.QueueLog.{QueueLog}
 use Rattle.qls_top.specs.declared.session.Session.{Session}
-use Rattle.qls_top.proofs.Blocks.{length-block, blocks_some}
-use Rattle.qls_top.proofs.Putting.{put_range}
-use Rattle.qls_top.proofs.SessionSteps.{put_filled, put_written, may_write, if_some}
+use Rattle.qls_top.specs.Ends.{StopsAtEnd}
+use Rattle.qls_top.specs.Moments.{IsSilentStep}
+use Rattle.qls_top.specs.Sessions.{FitsSession, RunsCommand}
+use Rattle.qls_top.specs.Serials.{is_exact}
+use Rattle.qls_top.specs.Steps.{WritesMessage, EndsWriting}
+use Rattle.qls_top.specs.Table.{log_named}
+use Rattle.qls_top.proofs.Chains.{ends_err}
+use Rattle.qls_top.proofs.Drawing.{drawn_none, tells_none}
+use Rattle.qls_top.proofs.Fitting.{stands_there}
+use Rattle.qls_top.proofs.Journals.{silent_passing}
+use Rattle.qls_top.proofs.Machine.{HasPut, put_answered, put_stays}
+use Rattle.qls_top.proofs.SessionSteps.{if_some, tells_same, tells_with, runs_nothing, same_logs, entry_is, no_entry, may_write, opening_is, writing_ends, put_run, put_logs}
 use Rattle.qls_top.proofs.session.Session.put.Goals as goal
-use Rattle.qls_top.proofs.session.Session.put.Goals.{then-room-blocks-via-then-room-blocks, then-room-blocks-via-else-room-blocks+then-room-blocks-2}
 
--- the entry that the search found is the file that was read
-entry_is : (name : List ℕ) (seen files : List QueueFile) (at : ℕ) (t : QueueFile) → seen ≡ files → entry_named name seen ≡ slice_get seen at → at < length seen → t ≡ get_or files at t → entry_named name files ≡ Some t
-entry_is name seen files at t same found range is =
-    ap (entry_named name) (sym same) ∙ found ∙ slice_get-get_or seen at t range ∙ ap (λ (fs : List QueueFile). Some (get_or fs at t)) same ∙ ap Some (sym is)
-
--- the length of a block that was spelled
-block_length : (serial n : ℕ) (seen block body given : List ℕ) → seen ≡ block → block ≡ block_bytes serial n given → given ≡ body → length seen ≡ 4096 * blocks (length body)
-block_length serial n seen block body given a b e = ap length (a ∙ b ∙ ap (block_bytes serial n) e) ∙ length-block serial (record { number = n; body = body; status = Ready })
-
-sectors : (used size b : ℕ) → size ≡ 4096 * b → 0 < b → ((4096 + used * 4096) % 512 ≡ 0) × (size % 512 ≡ 0) × (0 < size)
-sectors used size b e some = (omega arith, omega (arith, e), omega (arith, e, some))
-
--- the entry that is changed is the one that was read
-same_entry : (files : List QueueFile) (at : ℕ) (x t : QueueFile) → at < length files → x ≡ get_or files at x → t ≡ get_or files at t → x ≡ t
-same_entry files at x t range a b = a ∙ some_same (get_or files at x) (get_or files at t) (slice_get files at) (slice_get-get_or files at x range) (slice_get-get_or files at t range) ∙ sym b
-
-pub returns-then-room-blocks-clause-told : goal.returns-then-room-blocks-clause-told
-returns-then-room-blocks-clause-told g c =
-    let S : MachineState = c.args.self.now.state in
-    let name : List ℕ = c.args.name.now in
-    let body : List ℕ = c.args.body.now in
-    let files : List QueueFile = c.args.self.now.files.items in
-    let t : QueueFile = c.index-file.result.now in
+pub returns-in_default : goal.returns-in_default
+returns-in_default g c =
     let was : Session = c.args.self.now in
-    let found = c.in-Some.ensures.found in
-    let there : entry_named name files ≡ Some t = entry_is name c.deref.result.now files c.in-Some.at t c.deref.ensures.value found.1 found.0 c.index-file.ensures in
-    let b = c.blocks_of_body-blocks.ensures.counted in
-    let none : (c.args.self.now.home.kib / 4 < blocks (length body)) ⊎ (c.args.self.now.home.kib / 4 - blocks (length body) < t.used) =
-    elim c.then-room-blocks.branch [
-      | then-room-blocks-via-then-room-blocks w ↦ inl (omega (arith, w.if-room-blocks.true, b))
-      | then-room-blocks-via-else-room-blocks+then-room-blocks-2 w ↦ inr (omega (arith, w.if-room-blocks-2.true, b))
-    ] in
-    subst (λ (k : Command). Tells (RunsCommand was (Some k) was Full) (g.S.Site.told c.args.site.now) (g.S.Site.told c.args.site.now)) (sym c.requires.command)
-    (put_filled was was name body t (g.S.Site.told c.args.site.now) there refl refl refl refl c.requires.fits none)
+    let s : Session = record { alloc = was.alloc; home = was.home; pool = was.pool; state = c.step.new.state; queues = was.queues } in
+    let asked : Command = command.Put c.args.name.now c.args.body.now None in
+    let stepped : (c.step.new.state, c.in_ok-reply.reply) ≡ step was.state asked = c.in_ok-reply.ensures.stepped ∙ ap (step was.state) c.requires.command in
+    let state : c.step.new.state ≡ was.state = put_stays was.state c.step.new.state c.args.name.now c.args.body.now c.in_ok-reply.reply (λ n e. c.in_default.not-Number n e) stepped in
+    record {
+      logs = same_logs was s refl state refl c.requires.logs;
+      told = subst (λ (k : Command). Tells (RunsCommand was (Some k) s c.in_ok-reply.reply) (g.S.Site.told c.args.site.now) (g.S.Site.told c.args.site.now)) (sym c.requires.command)
+          (tells_same (RunsCommand was (Some asked) s c.in_ok-reply.reply) (FitsSession was) (g.S.Site.told c.args.site.now) c.requires.fits (λ x f. runs_nothing was (Some asked) s c.in_ok-reply.reply x stepped state refl refl f));
+      drawn = drawn_none true _ _ _ _ (tells_none (g.S.Site.told c.args.site.now)) refl;
+      spent = λ e. absurd (cc);
+      home = refl;
+      causes = record { sites_kept = omega arith; draws_kept = omega arith; site = λ e. absurd (cc); draw = λ e. absurd (cc) };
+      only = tt;
+    }
 
-pub write_block-requires-clause-range : goal.write_block-requires-clause-range
-write_block-requires-clause-range g c =
-    let S : MachineState = c.args.self.now.state in
-    let name : List ℕ = c.args.name.now in
-    let files : List QueueFile = c.args.self.now.files.items in
-    let t : QueueFile = c.index-file.result.now in
+pub write_message-requires-clause-log : goal.write_message-requires-clause-log
+write_message-requires-clause-log g c =
+    let was : Session = c.args.self.now in
+    let queues : List QueueLog = was.queues.items in
+    let t : QueueLog = c.index_mut.result.now in
     let found = c.in-Some.ensures.found in
-    let there : entry_named name files ≡ Some t = entry_is name c.deref.result.now files c.in-Some.at t c.deref.ensures.value found.1 found.0 c.index-file.ensures in
-    let b = c.blocks_of_body-blocks.ensures.counted in
-    if_some (FitsSession c.args.self.now) (HasRange t.id (4096 + t.used * 4096) (length c.deref-2.result.now)) (g.S.Site.told c.args.site.now) c.requires.fits
-    (λ x f. put_range c.args.self.now.home S c.args.self.now.pool files name t (length c.deref-2.result.now) (blocks (length c.args.body.now)) x there f
-    (block_length t.serial c.in-Number.number c.deref-2.result.now _ c.args.body.now _ c.deref-2.ensures.value c.in_ok-block.ensures.spelled c.as_slice.ensures.same) (omega (arith, c.if-room-blocks.false, c.if-room-blocks-2.false, b)))
+    let stepped : (c.step.new.state, Number c.in-Number.number) ≡ step was.state (command.Put c.args.name.now c.args.body.now None) =
+    ap (λ (r : Reply). (c.step.new.state, r)) (sym c.in-Number.is) ∙ c.in_ok-reply.ensures.stepped ∙ ap (step was.state) c.requires.command in
+    let put = put_answered was.state c.step.new.state c.args.name.now c.args.body.now c.in-Number.number stepped in
+    let range : c.in-Some.at < length queues = subst (λ (qs : List QueueLog). c.in-Some.at < length qs) c.deref.ensures.value found.0 in
+    let entry = entry_is c.args.name.now c.deref.result.now queues c.in-Some.at t c.deref.ensures.value found.1 found.0 c.index_mut.ensures.value in
+    let first = subst (λ (qs : List QueueLog). log_named c.args.name.now (take c.in-Some.at qs) ≡ None) c.deref.ensures.value found.2 in
+    may_write was.home was.state c.step.new.state queues c.args.name.now c.args.body.now c.in-Number.number c.in-Some.at t t c.requires.logs put range (sym c.index_mut.ensures.value) entry first
 
-pub write_block-requires-clause-used : goal.write_block-requires-clause-used
-write_block-requires-clause-used g c =
-    let name : List ℕ = c.args.name.now in
-    let t : QueueFile = c.index-file.result.now in
+pub write_message-requires-clause-there : goal.write_message-requires-clause-there
+write_message-requires-clause-there g c =
+    let was : Session = c.args.self.now in
+    let t : QueueLog = c.index_mut.result.now in
     let found = c.in-Some.ensures.found in
-    let there : entry_named name c.args.self.now.files.items ≡ Some t = entry_is name c.deref.result.now c.args.self.now.files.items c.in-Some.at t c.deref.ensures.value found.1 found.0 c.index-file.ensures in
-    if_some (FitsSession c.args.self.now) (MayWrite t.id) (g.S.Site.told c.args.site.now) c.requires.fits (λ x f. may_write c.args.self.now name t x there f)
+    let entry = entry_is c.args.name.now c.deref.result.now was.queues.items c.in-Some.at t c.deref.ensures.value found.1 found.0 c.index_mut.ensures.value in
+    if_some (FitsSession was) (OnDisk (LogThere t.log)) (g.S.Site.told c.args.site.now) c.requires.fits (λ x f. stands_there x.now.disk (log_named c.args.name.now was.queues.items) t entry (f.logs c.args.name.now))
 
-pub write_block-requires-clause-sectors : goal.write_block-requires-clause-sectors
-write_block-requires-clause-sectors g c =
-    sectors c.index-file.result.now.used (length c.deref-2.result.now) (blocks (length c.args.body.now))
-    (block_length c.index-file.result.now.serial c.in-Number.number c.deref-2.result.now _ c.args.body.now _ c.deref-2.ensures.value c.in_ok-block.ensures.spelled c.as_slice.ensures.same) (blocks_some (length c.args.body.now))
+pub returns-in_err-write_message-clause-told : goal.returns-in_err-write_message-clause-told
+returns-in_err-write_message-clause-told g c =
+    let was : Session = c.args.self.now in
+    let queues : List QueueLog = was.queues.items in
+    let t : QueueLog = c.index_mut.result.now in
+    let found = c.in-Some.ensures.found in
+    let stepped : (c.step.new.state, Number c.in-Number.number) ≡ step was.state (command.Put c.args.name.now c.args.body.now None) =
+    ap (λ (r : Reply). (c.step.new.state, r)) (sym c.in-Number.is) ∙ c.in_ok-reply.ensures.stepped ∙ ap (step was.state) c.requires.command in
+    let put = put_answered was.state c.step.new.state c.args.name.now c.args.body.now c.in-Number.number stepped in
+    let range : c.in-Some.at < length queues = subst (λ (qs : List QueueLog). c.in-Some.at < length qs) c.deref.ensures.value found.0 in
+    let entry = entry_is c.args.name.now c.deref.result.now queues c.in-Some.at t c.deref.ensures.value found.1 found.0 c.index_mut.ensures.value in
+    let first = subst (λ (qs : List QueueLog). log_named c.args.name.now (take c.in-Some.at qs) ≡ None) c.deref.ensures.value found.2 in
+    let own = opening_is was.home was.state c.step.new.state queues c.args.name.now c.args.body.now c.in-Number.number c.in-Some.at t t c.requires.logs put range (sym c.index_mut.ensures.value) entry first in
+    let m : Message = record { number = c.in-Number.number; body = c.args.body.now; status = Ready } in
+    ends_err IsSilentStep _ c.from_residual-in_err-write_message.result _ _ c.from_residual-in_err-write_message.ensures.0
+    (Tells-weaken (Passes (IsLogStep t.log.opening)) (Passes IsSilentStep) _ _ (c.in_err-write_message.ensures.told m refl refl) (λ x y k. silent_passing t.log.opening (ap (λ (o : Opening). o.epoch) own) x y k))
+
+pub returns-in_err-write_message-clause-spent : goal.returns-in_err-write_message-clause-spent
+returns-in_err-write_message-clause-spent g c = λ e.
+    let was : Session = c.args.self.now in
+    let queues : List QueueLog = was.queues.items in
+    let t : QueueLog = c.index_mut.result.now in
+    let found = c.in-Some.ensures.found in
+    let stepped : (c.step.new.state, Number c.in-Number.number) ≡ step was.state (command.Put c.args.name.now c.args.body.now None) =
+    ap (λ (r : Reply). (c.step.new.state, r)) (sym c.in-Number.is) ∙ c.in_ok-reply.ensures.stepped ∙ ap (step was.state) c.requires.command in
+    let put = put_answered was.state c.step.new.state c.args.name.now c.args.body.now c.in-Number.number stepped in
+    let range : c.in-Some.at < length queues = subst (λ (qs : List QueueLog). c.in-Some.at < length qs) c.deref.ensures.value found.0 in
+    let entry = entry_is c.args.name.now c.deref.result.now queues c.in-Some.at t c.deref.ensures.value found.1 found.0 c.index_mut.ensures.value in
+    let first = subst (λ (qs : List QueueLog). log_named c.args.name.now (take c.in-Some.at qs) ≡ None) c.deref.ensures.value found.2 in
+    let is : c.write_message.result ≡ Err fault.Spent = search (rules, c.from_residual-in_err-write_message.ensures, c.in_err-write_message.was, e) in
+    let m : Message = record { number = c.in-Number.number; body = c.args.body.now; status = Ready } in
+    subst (λ (k : Command). Tells (StopsAtEnd was.home was.state (Some k)) (g.S.Site.told c.args.site.now) (g.S.Site.told c.write_message.new.site)) (sym c.requires.command)
+    (Tells-weaken (EndsWriting m t.log) (StopsAtEnd was.home was.state (Some (command.Put c.args.name.now c.args.body.now None))) _ _ (c.write_message.ensures.spent m refl refl is)
+    (λ x y k. writing_ends was.home was.state c.step.new.state queues c.args.name.now c.args.body.now c.in-Number.number c.in-Some.at t t c.requires.logs put range (sym c.index_mut.ensures.value) entry first x y k))
+
+pub returns-clause-logs : goal.returns-clause-logs
+returns-clause-logs g c =
+    let was : Session = c.args.self.now in
+    let queues : List QueueLog = was.queues.items in
+    let t : QueueLog = c.index_mut.result.now in
+    let found = c.in-Some.ensures.found in
+    let stepped : (c.step.new.state, Number c.in-Number.number) ≡ step was.state (command.Put c.args.name.now c.args.body.now None) =
+    ap (λ (r : Reply). (c.step.new.state, r)) (sym c.in-Number.is) ∙ c.in_ok-reply.ensures.stepped ∙ ap (step was.state) c.requires.command in
+    let put = put_answered was.state c.step.new.state c.args.name.now c.args.body.now c.in-Number.number stepped in
+    let range : c.in-Some.at < length queues = subst (λ (qs : List QueueLog). c.in-Some.at < length qs) c.deref.ensures.value found.0 in
+    let entry = entry_is c.args.name.now c.deref.result.now queues c.in-Some.at t c.deref.ensures.value found.1 found.0 c.index_mut.ensures.value in
+    let first = subst (λ (qs : List QueueLog). log_named c.args.name.now (take c.in-Some.at qs) ≡ None) c.deref.ensures.value found.2 in
+    let m : Message = record { number = c.in-Number.number; body = c.args.body.now; status = Ready } in
+    let s : Session = record {
+      alloc = was.alloc;
+      home = was.home;
+      pool = c.write_message.new.pool;
+      state = c.step.new.state;
+      queues = with_item was.queues c.in-Some.at (record { name = t.name; log = c.write_message.new.log });
+    } in
+    put_logs was s c.args.name.now c.args.body.now c.in-Number.number c.in-Some.at t t c.requires.logs put range (sym c.index_mut.ensures.value) entry first c.write_message.new.log
+    (c.in_ok-write_message.ensures.log m refl refl) refl refl
 
 pub returns-clause-told : goal.returns-clause-told
 returns-clause-told g c =
-    let S : MachineState = c.args.self.now.state in
-    let name : List ℕ = c.args.name.now in
-    let body : List ℕ = c.args.body.now in
-    let files : List QueueFile = c.args.self.now.files.items in
-    let t : QueueFile = c.index-file.result.now in
+    let was : Session = c.args.self.now in
+    let queues : List QueueLog = was.queues.items in
+    let t : QueueLog = c.index_mut.result.now in
     let found = c.in-Some.ensures.found in
-    let there : entry_named name files ≡ Some t = entry_is name c.deref.result.now files c.in-Some.at t c.deref.ensures.value found.1 found.0 c.index-file.ensures in
-    let b = c.blocks_of_body-blocks.ensures.counted in
+    let stepped : (c.step.new.state, Number c.in-Number.number) ≡ step was.state (command.Put c.args.name.now c.args.body.now None) =
+    ap (λ (r : Reply). (c.step.new.state, r)) (sym c.in-Number.is) ∙ c.in_ok-reply.ensures.stepped ∙ ap (step was.state) c.requires.command in
+    let put = put_answered was.state c.step.new.state c.args.name.now c.args.body.now c.in-Number.number stepped in
+    let range : c.in-Some.at < length queues = subst (λ (qs : List QueueLog). c.in-Some.at < length qs) c.deref.ensures.value found.0 in
+    let entry = entry_is c.args.name.now c.deref.result.now queues c.in-Some.at t c.deref.ensures.value found.1 found.0 c.index_mut.ensures.value in
+    let first = subst (λ (qs : List QueueLog). log_named c.args.name.now (take c.in-Some.at qs) ≡ None) c.deref.ensures.value found.2 in
+    let m : Message = record { number = c.in-Number.number; body = c.args.body.now; status = Ready } in
     let s : Session = record {
-      alloc = c.args.self.now.alloc;
-      home = c.args.self.now.home;
-      pool = c.args.self.now.pool;
-      state = c.step-2.new.state;
-      files = with_item c.args.self.now.files c.in-Some.at (record { name = c.index_mut.result.now.name; id = c.index_mut.result.now.id; serial = c.index_mut.result.now.serial; used = t.used + c.blocks_of_body-blocks.result });
+      alloc = was.alloc;
+      home = was.home;
+      pool = c.write_message.new.pool;
+      state = c.step.new.state;
+      queues = with_item was.queues c.in-Some.at (record { name = t.name; log = c.write_message.new.log });
     } in
-    let range : c.in-Some.at < length files = subst (λ (fs : List QueueFile). c.in-Some.at < length fs) c.deref.ensures.value found.0 in
-    let same : c.index_mut.result.now ≡ t = same_entry files c.in-Some.at c.index_mut.result.now t range c.index_mut.ensures.value c.index-file.ensures in
-    let block : c.deref-2.result.now ≡ block_bytes t.serial c.in-Number.number body = c.deref-2.ensures.value ∙ c.in_ok-block.ensures.spelled ∙ ap (block_bytes t.serial c.in-Number.number) c.as_slice.ensures.same in
-    let stepped : (c.step-2.new.state, Number c.in-Number.number) ≡ step S (command.Put name body None) =
-    ap (λ (r : Reply). (c.step-2.new.state, r)) (sym c.in-Number.is) ∙ c.in_ok-reply.ensures.stepped ∙ ap (step S) c.requires.command in
-    subst (λ (k : Command). Tells (RunsCommand c.args.self.now (Some k) s (Plain (Number c.in-Number.number))) (g.S.Site.told c.args.site.now) (g.S.Site.told c.write_block.new.site)) (sym c.requires.command)
-    (put_written c.args.self.now s name body c.in-Some.at t t c.in-Number.number _ _ range (sym c.index-file.ensures) there
-    (subst (λ (fs : List QueueFile). entry_named name (take c.in-Some.at fs) ≡ None) c.deref.ensures.value found.2)
-    c.requires.fits c.requires.size (omega (arith, c.if-room-blocks.false, b)) (omega (arith, c.if-room-blocks-2.false, b)) stepped
-    (subst (λ (bytes : List ℕ). Tells (WritesBlock t.id (4096 + t.used * 4096) bytes) (g.S.Site.told c.args.site.now) (g.S.Site.told c.write_block.new.site)) block c.in_ok-write_block.ensures.told) refl refl
-    (λ i. slice_set files c.in-Some.at (record { name = (same i).name; id = (same i).id; serial = (same i).serial; used = t.used + b i })))
+    subst (λ (k : Command). Tells (RunsCommand was (Some k) s (Number c.in-Number.number)) (g.S.Site.told c.args.site.now) (g.S.Site.told c.write_message.new.site)) (sym c.requires.command)
+    (tells_with (WritesMessage m t.log c.write_message.new.log c.write_message.new.pool) (RunsCommand was (Some (command.Put c.args.name.now c.args.body.now None)) s (Number c.in-Number.number)) (FitsSession was) _ _ c.requires.fits
+    (c.in_ok-write_message.ensures.told m refl refl)
+    (λ x y fits w. put_run was s c.args.name.now c.args.body.now c.in-Number.number c.in-Some.at t t c.requires.logs put range (sym c.index_mut.ensures.value) entry first c.write_message.new.log c.write_message.new.pool x y fits stepped w refl refl))
