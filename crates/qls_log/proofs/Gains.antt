@@ -77,7 +77,7 @@ those_push cap (k ∷ hs) [] h f t is = absurd t
 those_push cap (k ∷ hs) (g ∷ fs) h f t is = (t.0, those_push cap hs fs h f t.1 is)
 
 -- all have lesser numbers
-below_those : (cap n newest : ℕ) (hs : List HeadedFile) (fs : List Headed) → NumberedFrom n hs newest → AreThoseFiles cap hs fs → (n ≤ newest + 1) × Below (newest + 1) fs
+pub below_those : (cap n newest : ℕ) (hs : List HeadedFile) (fs : List Headed) → NumberedFrom n hs newest → AreThoseFiles cap hs fs → (n ≤ newest + 1) × Below (newest + 1) fs
 below_those cap n newest [] [] m t = (omega (arith, m), tt)
 below_those cap n newest [] (f ∷ fs) m t = absurd t
 below_those cap n newest (h ∷ hs) [] m t = absurd t

@@ -16,3 +16,7 @@ pub mod Stands
 pub mod Places
 pub mod Behind
 pub mod Puts
+pub mod OwnSteps
+pub mod Making
+pub mod Going
+pub mod Quiets

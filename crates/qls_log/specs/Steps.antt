@@ -3,7 +3,7 @@ use Rattle.std.specs.Prelude.{◌≡◌, ℕ, ◌+◌, Bool, true, false, ◌&&�
 use Rattle.std.specs.List.{AllByRecursion}
 use Rattle.qls_model.specs.Bytes.{same}
 use Rattle.qls_site.specs.Disk.{FileState, file_of, full_file}
-use Rattle.qls_site.specs.Content.{Moment}
+use Rattle.qls_site.specs.Content.{Moment, Content}
 use Rattle.qls_filehdr.specs.declared.JournalKind.{JournalKind}
 use Rattle.qls_filehdr.specs.declared.FileHeader.{FileHeader}
 use Rattle.qls_filehdr.specs.Header.{header_of}
@@ -11,7 +11,9 @@ use Rattle.qls_meaning.specs.Journals.{headed, is_in_use, is_of, same_kind}
 use Rattle.qls_meaning.specs.Dead.{newest_number}
 use Rattle.qls_meaning.specs.Orderly.{journal_on}
 use Rattle.qls_pool.specs.Discipline.{IsPoolStep}
+use Rattle.qls_pool.specs.Files.{IdsDiffer}
 use Rattle.qls_pool.specs.Next.{HeadersStay}
+use Rattle.qls_pool.specs.Moments.{Passes, Arrives}
 use Rattle.qls_log.specs.declared.opening.Opening.{Opening}
 use Rattle.qls_log.specs.declared.fault.LogError.{LogError}
 use Rattle.qls_log.specs.declared.fault.LogError.TheVariants.{Failed, Draw, Spent, Memory}
@@ -37,10 +39,11 @@ TakesOwn o m (Some f) g = is_in_use f.place ≡ false → is_in_use g.place ≡ 
 
 -- ---- the step
 
--- Nothing is answered, and the pool has its order. Files that come into use are the journal's next ones, and headers of files in use
--- stay. Every other journal is as before, and so is each file in use of another journal
+-- Nothing is answered, ids differ still, and the pool has its order. Files that come into use are the journal's next ones, and headers of
+-- files in use stay. Every other journal is as before, and so is each file in use of another journal
 pub record IsLogStep (o : Opening) (m n : Moment) : Type 0 where
   pub answered : n.answered ≡ m.answered
+  pub differ : IdsDiffer m.disk → IdsDiffer n.disk
   pub pool : IsPoolStep m n
   pub next : AllByRecursion (λ g. TakesOwn o m (file_of g.id m.disk) g) n.disk
   pub headers : HeadersStay m n
@@ -57,3 +60,13 @@ is_exact (Err Spent) = true
 is_exact (Err Failed) = false
 is_exact (Err Draw) = false
 is_exact (Err Memory) = false
+
+-- ---- the moments of a call
+
+-- at Ok the call arrived, and where a counter is spent; after another error what is now may differ from the last moment
+abbrev pub GoesBy : {X : Type 0} → (Moment → Moment → Type 0) → Result X LogError → Content → Content → Type 0
+GoesBy R (Ok x) old new = Arrives R old new
+GoesBy R (Err Spent) old new = Arrives R old new
+GoesBy R (Err Failed) old new = Passes R old new
+GoesBy R (Err Draw) old new = Passes R old new
+GoesBy R (Err Memory) old new = Passes R old new

@@ -1,12 +1,16 @@
 -- What taking files does to the site, to the pool and to the serials.
 use Rattle.std.specs.Prelude.{◌≡◌, ◌⊎◌, ℕ, ◌+◌, ◌-◌, ◌^◌, ◌<◌, List, [], ◌∷◌, Option, Ok}
+use Rattle.std.specs.List.{AllByRecursion}
 use Rattle.qls_model.specs.declared.machine.PoolId.{PoolId}
 use Rattle.qls_site.specs.declared.serials.DrawError.{DrawError}
 use Rattle.qls_site.specs.Content.{Content, Acts, Draws}
 use Rattle.qls_pool.specs.Pools.{PoolState, HandsOut, IsSpent, least_id}
-use Rattle.qls_pool.specs.Files.{HeadedFile}
+use Rattle.qls_pool.specs.Files.{HeadedFile, IsWholePool}
 use Rattle.qls_pool.specs.Taking.{Obtains, Heads, put_in_use}
+use Rattle.qls_site.specs.Disk.{Disk}
+use Rattle.qls_meaning.specs.Dead.{newest_number}
 use Rattle.qls_log.specs.declared.opening.Opening.{Opening}
+use Rattle.qls_log.specs.Standing.{files_on}
 
 -- the pool hands the file out, its header is written and synced, and it is put into use
 pub record TakesFile (home : PoolId) (pool left : PoolState) (h : HeadedFile) (old new : Content) : Type 0 where
@@ -34,4 +38,17 @@ DrawsEach (h ∷ hs) old new = (mid : Option (List ℕ)) × DrawsOne h old mid �
 pub record MeetsEnd (o : Opening) (newest n : ℕ) (pool : PoolState) : Type 0 where
   pub taken : ℕ
   pub fewer : taken < n
+  pub last : (newest + taken ≡ 2 ^ 62 - 1) ⊎ IsSpent o.home pool
+
+-- the pool is the site's, and a file with this number is the next one of the journal
+pub record MayTake (o : Opening) (pool : PoolState) (number : ℕ) (d : Disk) : Type 0 where
+  pub whole : IsWholePool pool d
+  pub next : newest_number (files_on o d) + 1 ≡ number
+  pub lesser : AllByRecursion (λ f. f.header.number < number) (files_on o d)
+
+-- so many files were taken, fewer than n, and the next one can't be had: its number would be 2 ^ 62, or its id
+pub record StopsAfter (o : Opening) (newest n : ℕ) (pool : PoolState) (d : Disk) : Type 0 where
+  pub taken : ℕ
+  pub fewer : taken < n
+  pub may : MayTake o pool (newest + taken + 1) d
   pub last : (newest + taken ≡ 2 ^ 62 - 1) ⊎ IsSpent o.home pool

@@ -5,12 +5,14 @@ ghost use Rattle.qls_site.specs.Disk.{IsQuiet};
 ghost use Rattle.qls_pool.specs.Pools.{PoolState, IsSpent};
 ghost use Rattle.qls_pool.specs.Files.{HeadedFile, IsPoolOf, IsWholePool, OnDisk, Carries};
 ghost use Rattle.qls_pool.specs.Discipline.{Orderly};
+ghost use Rattle.qls_pool.specs.Serials.{DrawsTaken};
 ghost use Rattle.qls_blocks.specs.Batching.{laid_from};
 ghost use Rattle.qls_blocks.specs.Plans.{plan_of};
 ghost use Rattle.qls_log.specs.Logs.{IsLegalOpening, capacity_in};
 ghost use Rattle.qls_log.specs.Faults.{LogCauses, SiteCauses, Counts};
 ghost use Rattle.qls_log.specs.Taking.{TakesFiles, DrawsEach, MeetsEnd};
 ghost use Rattle.qls_log.specs.Spots.{spot_of};
+ghost use Rattle.qls_log.specs.Steps.{IsLogStep, GoesBy, is_exact};
 ghost use Rattle.qls_log.specs.Standing.{LogThere, StandsWith, IsUnmarkedBehind, files_on};
 ghost use Rattle.qls_meaning.specs.Reading.{Read};
 ghost use Rattle.qls_log.specs.Reads.{IsRead, BeginsReading, ReadsOn};
@@ -91,6 +93,11 @@ impl Log {
         ensures syncs { Counts (S.told site.old) result 1 (S.syncs site.old) (S.syncs site.new) }
         ensures reads { S.reads site.new ≡ S.reads site.old }
         ensures orderly { Orderly (IsPoolOf pool.old []) result (S.told site.old) (S.told site.new) }
+        ensures went { Tells (GoesBy (IsLogStep (record { kind = kind; name = name; home = home; epoch = 1 })) result) (S.told site.old) (S.told site.new) }
+        ensures drew { DrawsTaken (is_exact result) (S.told site.old) (S.told site.new) (N.drawn serials.old) (N.drawn serials.new) }
+        ensures quiet { IfOk result (λ _. Carries IsQuiet IsQuiet (S.told site.old) (S.told site.new)) }
+        ensures no_call { result ≡ Err LogError.Spent → site.new ≡ site.old }
+        ensures spent_pool { result ≡ Err LogError.Spent → pool.new ≡ pool.old }
     {
         let opening = Opening {
             kind,

@@ -1,13 +1,15 @@
 // The files that a batch needs, taken one after another.
-ghost use Rattle.std.specs.Prelude.{◌≡◌, ◌<◌, ◌^◌, ◌+◌, ◌⊎◌, [], IfOk, IfSome, IsTrue, Err, Some, slice_get, true, length};
+ghost use Rattle.std.specs.Prelude.{◌≡◌, ◌<◌, ◌≤◌, ◌^◌, ◌+◌, ◌⊎◌, [], IfOk, IfSome, IsTrue, Err, Some, slice_get, true, length};
 ghost use Rattle.std.specs.List.{AllByRecursion};
 ghost use Rattle.qls_filehdr.specs.Limits.{is_counter, is_legal_header};
 ghost use Rattle.qls_site.specs.Content.{Tells};
 ghost use Rattle.qls_pool.specs.Pools.{IsSpent};
 ghost use Rattle.qls_pool.specs.Files.{IsPoolOf, IsWholePool, OnDisk, Carries};
 ghost use Rattle.qls_pool.specs.Discipline.{Orderly};
+ghost use Rattle.qls_pool.specs.Serials.{DrawsTaken};
 ghost use Rattle.qls_log.specs.Logs.{IsLegalOpening, FitsFile, header_for, AreHeaded};
-ghost use Rattle.qls_log.specs.Taking.{TakesFile, TakesFiles, DrawsOne, DrawsEach, MeetsEnd};
+ghost use Rattle.qls_log.specs.Taking.{TakesFile, TakesFiles, DrawsOne, DrawsEach, MeetsEnd, MayTake, StopsAfter};
+ghost use Rattle.qls_log.specs.Steps.{IsLogStep, GoesBy, is_exact};
 ghost use Rattle.qls_log.specs.Faults.{LogCauses, Counts};
 
 use crate::fault::LogError;
@@ -33,6 +35,7 @@ fn take_file<S: Site, N: Serials>(
     requires number { is_counter number ≡ true }
     requires fits { FitsFile opening.now.home.kib fresh }
     requires pool { IfSome (S.told site.old) (OnDisk (IsPoolOf pool.old [])) }
+    requires start { IfSome (S.told site.old) (OnDisk (MayTake opening.now pool.old number)) }
     ensures file { IfOk result (λ file. file.header ≡ header_for opening.now file.header.serial number fresh) }
     ensures told { IfOk result (λ file. Tells (TakesFile opening.now.home pool.old pool.new file) (S.told site.old) (S.told site.new)) }
     ensures legal { IfOk result (λ file. IsTrue (is_legal_header file.header)) }
@@ -47,6 +50,9 @@ fn take_file<S: Site, N: Serials>(
     ensures syncs { Counts (S.told site.old) result 1 (S.syncs site.old) (S.syncs site.new) }
     ensures reads { S.reads site.new ≡ S.reads site.old }
     ensures orderly { Orderly (IsPoolOf pool.old []) result (S.told site.old) (S.told site.new) }
+    ensures next { IfOk result (λ _. IfSome (S.told site.new) (OnDisk (MayTake opening.now pool.new (number + 1)))) }
+    ensures went { Tells (GoesBy (IsLogStep opening.now) result) (S.told site.old) (S.told site.new) }
+    ensures drew { DrawsTaken (is_exact result) (S.told site.old) (S.told site.new) (N.drawn serials.old) (N.drawn serials.new) }
 {
     let blank = pool.blank(site, serials, opening.home)?;
     let header = opening.header(blank.serial(), number, fresh);
@@ -77,6 +83,7 @@ pub(crate) fn take_files<S: Site, N: Serials>(
     requires newest { newest < 2 ^ 62 }
     requires fits { AllByRecursion (FitsFile opening.now.home.kib) fresh.now }
     requires pool { IfSome (S.told site.old) (OnDisk (IsPoolOf pool.old [])) }
+    requires start { IfSome (S.told site.old) (OnDisk (MayTake opening.now pool.old (newest + 1))) }
     ensures headers { IfOk result (λ files. AreHeaded opening.now newest fresh.now files.items) }
     ensures newest { IfOk result (λ files. newest + length files.items < 2 ^ 62) }
     ensures told { IfOk result (λ files. Tells (TakesFiles opening.now.home pool.old pool.new files.items) (S.told site.old) (S.told site.new)) }
@@ -90,6 +97,11 @@ pub(crate) fn take_files<S: Site, N: Serials>(
     ensures syncs { Counts (S.told site.old) result (length fresh.now) (S.syncs site.old) (S.syncs site.new) }
     ensures reads { S.reads site.new ≡ S.reads site.old }
     ensures orderly { Orderly (IsPoolOf pool.old []) result (S.told site.old) (S.told site.new) }
+    ensures went { Tells (GoesBy (IsLogStep opening.now) result) (S.told site.old) (S.told site.new) }
+    ensures drew { DrawsTaken (is_exact result) (S.told site.old) (S.told site.new) (N.drawn serials.old) (N.drawn serials.new) }
+    ensures next { IfOk result (λ files. IfSome (S.told site.new) (OnDisk (MayTake opening.now pool.new (newest + length files.items + 1)))) }
+    ensures ends { result ≡ Err LogError.Spent → IfSome (S.told site.new) (OnDisk (StopsAfter opening.now newest (length fresh.now) pool.new)) }
+    ensures at_once { result ≡ Err LogError.Spent → length fresh.now ≤ 1 → (site.new ≡ site.old) × (pool.new ≡ pool.old) }
 {
     let mut files = Vec::with_capacity(alloc, fresh.len())?;
     let mut number = newest;

@@ -1,13 +1,20 @@
-use Rattle.std.proofs.Common.{◌≡◌, ◌+◌, [], ◌∷◌, ◌++◌, Ok, subst, sym, rules, take, List}
+use Rattle.std.proofs.Common.{◌≡◌, ◌+◌, inr, length, IfSome, Err, [], ◌∷◌, ◌++◌, Ok, subst, sym, rules, take, List, arith}
 use Rattle.qls_filehdr.specs.Limits.{is_legal_header}
 use Rattle.std.proofs.Common.{IsTrue}
 use Rattle.std.specs.List.{AllByRecursion}
 use Rattle.qls_site.specs.Content.{Tells}
-use Rattle.qls_pool.specs.Files.{HeadedFile, IsPoolOf, IsWholePool}
+use Rattle.qls_pool.specs.Files.{HeadedFile, IsPoolOf, IsWholePool, OnDisk}
 use Rattle.qls_log.specs.declared.fault.LogError.{LogError}
 use Rattle.qls_log.specs.declared.fault.LogError.TheVariants.{Memory}
 use Rattle.qls_log.specs.Logs.{AreHeaded, FitsFile}
-use Rattle.qls_log.specs.Taking.{TakesFiles, DrawsEach}
+use Rattle.qls_log.specs.Taking.{TakesFiles, DrawsEach, StopsAfter}
+use Rattle.qls_pool.specs.declared.file.Linked.{Linked}
+use Rattle.qls_pool.proofs.Moments.{told_arrives}
+use Rattle.qls_log.specs.Steps.{IsLogStep, is_exact}
+use Rattle.qls_log.proofs.Going.{draws_on, draws_handed, told_handed, told_on, told_arrived, told_stops}
+use Rattle.qls_pool.proofs.Serials.{drawn_any}
+use Rattle.qls_pool.specs.Pools.{PoolState, IsSpent}
+use Rattle.qls_log.specs.declared.opening.Opening.{Opening}
 use Rattle.qls_log.proofs.Steps.{failed, ok_again}
 use Rattle.qls_log.proofs.Chains.{take_next, all_get, told_push, draws_push, headed_push, all_push, counts_push, orderly_chain, orderly_stays, whole_then}
 use Rattle.qls_log.proofs.take.take_files.Goals as goal
@@ -53,6 +60,10 @@ loop-at-preserved g c =
           counts_push LogError LogError (TakesFiles c.args.opening.now.home c.args.pool.now c.loop-at.pool c.loop-at.files.items) (tt {0}) c.in_ok-file.file (tt {0}) _ _ c.loop-at.at _ _ _
           c.loop-at.invariant.told c.loop-at.invariant.syncs c.in_ok-file.ensures.syncs;
       reads = search rules;
+      went = told_arrives (IsLogStep c.args.opening.now) _ _ _ c.loop-at.invariant.went c.in_ok-file.ensures.went;
+      drew = draws_on (IsLogStep c.args.opening.now) {X = Linked} (Ok c.in_ok-file.file) _ _ _ _ _ _ c.loop-at.invariant.went c.in_ok-file.ensures.went c.loop-at.invariant.drew c.in_ok-file.ensures.drew;
+      next = c.in_ok-file.ensures.next;
+      same = λ e. absurd (omega (arith, e));
       orderly =
           orderly_chain {F = LogError} c.args.opening.now.home c.args.pool.now c.loop-at.pool c.loop-at.files.items (Ok (tt {0})) _ _ _ c.loop-at.invariant.told c.loop-at.invariant.orderly c.loop-at.invariant.whole
           (ok_again LogError LogError (IsPoolOf c.loop-at.pool []) c.in_ok-file.file (tt {0}) _ _ c.in_ok-file.ensures.orderly);
@@ -60,3 +71,34 @@ loop-at-preserved g c =
 
 pub take_file-requires-clause-fits : goal.take_file-requires-clause-fits
 take_file-requires-clause-fits g c = all_get (FitsFile c.args.opening.now.home.kib) c.args.fresh.now c.loop-at.at c.fresh_at.result c.requires.fits c.fresh_at.ensures.exact
+
+pub returns-in_err-file-clause-went : goal.returns-in_err-file-clause-went
+returns-in_err-file-clause-went g c =
+    let is : Err c.in_err-file.field-0.0 ≡ c.from_residual-in_err-file.result = search (rules, c.from_residual-in_err-file.ensures) in
+    told_handed (IsLogStep c.args.opening.now) Linked c.in_err-file.field-0.0 c.from_residual-in_err-file.result _ _ is
+    (told_on (IsLogStep c.args.opening.now) {X = Linked} (Err c.in_err-file.field-0.0) _ _ _ c.loop-at.invariant.went c.in_err-file.ensures.went)
+
+pub returns-in_err-file-clause-drew : goal.returns-in_err-file-clause-drew
+returns-in_err-file-clause-drew g c =
+    let is : Err c.in_err-file.field-0.0 ≡ c.from_residual-in_err-file.result = search (rules, c.from_residual-in_err-file.ensures) in
+    draws_handed Linked c.in_err-file.field-0.0 c.from_residual-in_err-file.result _ _ _ _ is
+    (draws_on (IsLogStep c.args.opening.now) {X = Linked} (Err c.in_err-file.field-0.0) _ _ _ _ _ _ c.loop-at.invariant.went c.in_err-file.ensures.went c.loop-at.invariant.drew c.in_err-file.ensures.drew)
+
+pub returns-in_err-file-clause-ends : goal.returns-in_err-file-clause-ends
+returns-in_err-file-clause-ends g c = λ e.
+    let o : Opening = c.args.opening.now in
+    let spent : IsSpent o.home c.loop-at.pool = c.in_err-file.ensures.spent (search rules) in
+    let site : c.take_file.new.site ≡ c.loop-at.site = c.in_err-file.ensures.spent_site (search rules) in
+    let pool : c.take_file.new.pool ≡ c.loop-at.pool = c.in_err-file.ensures.spent_pool (search rules) in
+    subst (λ (p : PoolState). IfSome (g.S.Site.told c.take_file.new.site) (OnDisk (StopsAfter o c.args.newest (length c.args.fresh.now) p))) (sym pool)
+    (subst (λ x. IfSome (g.S.Site.told x) (OnDisk (StopsAfter o c.args.newest (length c.args.fresh.now) c.loop-at.pool))) (sym site)
+    (told_stops o c.args.newest c.loop-at.number c.loop-at.at (length c.args.fresh.now) c.loop-at.pool _ c.loop-at.invariant.number c.loop-at-test.true c.loop-at.invariant.next (inr spent)))
+
+pub returns-in_err-push-clause-went : goal.returns-in_err-push-clause-went
+returns-in_err-push-clause-went g c =
+    told_arrived (IsLogStep c.args.opening.now) c.from_residual-in_err-push.result _ _ (told_arrives (IsLogStep c.args.opening.now) _ _ _ c.loop-at.invariant.went c.in_ok-file.ensures.went)
+
+pub returns-in_err-push-clause-drew : goal.returns-in_err-push-clause-drew
+returns-in_err-push-clause-drew g c =
+    drawn_any (is_exact c.from_residual-in_err-push.result) _ _ _ _
+    (draws_on (IsLogStep c.args.opening.now) {X = Linked} (Ok c.in_ok-file.file) _ _ _ _ _ _ c.loop-at.invariant.went c.in_ok-file.ensures.went c.loop-at.invariant.drew c.in_ok-file.ensures.drew)

@@ -1,4 +1,4 @@
-use Rattle.std.proofs.Common.{◌≡◌, ◌+◌, ◌-◌, ◌^◌, ◌<◌, ◌≤◌, [], take, length, Ok, IfSome, IsTrue}
+use Rattle.std.proofs.Common.{◌≡◌, ◌+◌, ◌-◌, ◌^◌, ◌<◌, ◌≤◌, true, [], take, length, Ok, IfSome, IsTrue}
 use Rattle.std.specs.List.{AllByRecursion}
 use Rattle.qls_site.specs.Content.{Tells}
 use Rattle.qls_filehdr.specs.Limits.{is_legal_header}
@@ -7,7 +7,10 @@ use Rattle.qls_pool.specs.Files.{IsPoolOf, IsWholePool, OnDisk, Carries}
 use Rattle.qls_pool.specs.Discipline.{Orderly}
 use Rattle.qls_log.specs.declared.fault.LogError.{LogError}
 use Rattle.qls_log.specs.Logs.{AreHeaded}
-use Rattle.qls_log.specs.Taking.{TakesFiles, DrawsEach}
+use Rattle.qls_log.specs.Taking.{TakesFiles, DrawsEach, MayTake}
+use Rattle.qls_pool.specs.Moments.{Arrives}
+use Rattle.qls_pool.specs.Serials.{DrawsTaken}
+use Rattle.qls_log.specs.Steps.{IsLogStep}
 use Rattle.qls_log.specs.Faults.{Counts}
 use Rattle.qls_log.proofs.take.take_files.Given as goal
 
@@ -29,5 +32,9 @@ invariant-loop-at g l = record {
   draws : g.N.Serials.faults l.fn.serials ≤ g.N.Serials.faults l.serials;
   syncs : Counts {E = LogError} (g.S.Site.told l.fn.site) (Ok (tt {0})) l.at (g.S.Site.syncs l.fn.site) (g.S.Site.syncs l.site);
   reads : g.S.Site.reads l.site ≡ g.S.Site.reads l.fn.site;
+  went : Tells (Arrives (IsLogStep l.opening)) (g.S.Site.told l.fn.site) (g.S.Site.told l.site);
+  drew : DrawsTaken true (g.S.Site.told l.fn.site) (g.S.Site.told l.site) (g.N.Serials.drawn l.fn.serials) (g.N.Serials.drawn l.serials);
+  next : IfSome (g.S.Site.told l.site) (OnDisk (MayTake l.opening l.pool (l.number + 1)));
+  same : l.at ≡ 0 → l.site ≡ l.fn.site;
   orderly : Orderly {E = LogError} (IsPoolOf l.fn.pool []) (Ok (tt {0})) (g.S.Site.told l.fn.site) (g.S.Site.told l.site);
 }

@@ -16,6 +16,7 @@ use Rattle.qls_log.proofs.Stands.{told_stands}
 use Rattle.qls_log.proofs.Appended.{sound_capacity, told_room, headed_count, tail_length, sound_after, told_appended, told_writes, told_there, told_pool_after, told_others_after, batch_size}
 use Rattle.qls_log.specs.Reads.{ReadsOn}
 use Rattle.qls_log.proofs.Behind.{told_reads_on}
+use Rattle.qls_log.proofs.Going.{told_may}
 use Rattle.qls_log.proofs.log.Log.append.Goals as goal
 
 pub take_files-requires-clause-fits : goal.take_files-requires-clause-fits
@@ -211,3 +212,9 @@ returns-clause-reading g c =
     subst (λ (x : LogState). Tells (ReadsOn c.args.batch.now x new) (g.S.Site.told c.args.site.now) (g.S.Site.told c.write_batch.new.site)) c.self.view_is
     (told_reads_on l sound flushed c.args.pool.now c.take_files.new.pool taken c.as_slice-fresh.result.now c.in_ok-taken.ensures.headers c.in_ok-taken.ensures.legal c.args.batch.now
     (filled_legal l.rid c.args.batch.now rids c.in_ok-spots.ensures.legal) some number new refl files used (ap (λ n. l.newest + n) (sym count)) again planned _ _ _ c.in_ok-taken.ensures.told writes there c.requires.pool)
+
+pub take_files-requires-clause-start : goal.take_files-requires-clause-start
+take_files-requires-clause-start g c =
+    let l : LogState = record { opening = c.self.inside.opening; files = c.self.inside.files.items; newest = c.self.inside.newest; used = c.self.inside.used; rid = c.self.inside.rid; unsynced = c.self.inside.unsynced; ended = c.self.inside.ended } in
+    let sound : IsSound l = c.self.invariant (ap (λ (x : LogState). x.ended) c.self.view_is ∙ c.requires.unended) in
+    told_may l c.args.pool.now _ sound (subst (λ (x : LogState). IfSome (g.S.Site.told c.args.site.now) (OnDisk (LogThere x))) (sym c.self.view_is) c.requires.there) c.requires.pool

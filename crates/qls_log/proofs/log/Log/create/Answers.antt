@@ -10,6 +10,8 @@ use Rattle.qls_log.specs.Standing.{LogThere, StandsWith}
 use Rattle.qls_log.specs.Appending.{ReadsNone}
 use Rattle.qls_log.specs.Reads.{BeginsReading}
 use Rattle.qls_log.proofs.News.{spent_at_once, told_new, told_start, told_reads, told_begins, told_others, room_of}
+use Rattle.qls_log.proofs.Going.{told_first}
+use Rattle.qls_log.proofs.Quiets.{told_quiet_files}
 use Rattle.qls_log.proofs.log.Log.create.Goals as goal
 
 pub returns-in_err-files-clause-spent : goal.returns-in_err-files-clause-spent
@@ -58,3 +60,9 @@ returns-clause-begins g c =
     subst (λ (l : LogState). Tells (BeginsReading l) (g.S.Site.told c.args.site.now) (g.S.Site.told c.take_files.new.site)) (sym n.log)
     (told_begins o c.args.pool.now c.take_files.new.pool n.file n.header (subst (λ (hs : List HeadedFile). AllByRecursion (λ h. IsTrue (is_legal_header h.header)) hs) files c.in_ok-files.ensures.legal) _ _ (room_of o c.requires.legal.kib)
     (subst (λ (hs : List HeadedFile). Tells (TakesFiles o.home c.args.pool.now c.take_files.new.pool hs) (g.S.Site.told c.args.site.now) (g.S.Site.told c.take_files.new.site)) files c.in_ok-files.ensures.told) c.requires.pool c.requires.new)
+
+pub take_files-requires-clause-start : goal.take_files-requires-clause-start
+take_files-requires-clause-start g c = told_first (record { kind = c.args.kind; name = c.args.name; home = c.args.home; epoch = 1 }) c.args.pool.now _ c.requires.pool c.requires.new
+
+pub returns-clause-quiet : goal.returns-clause-quiet
+returns-clause-quiet g c = told_quiet_files c.args.home c.args.pool.now c.take_files.new.pool c.in_ok-files.files.items _ _ c.in_ok-files.ensures.told
