@@ -109,6 +109,118 @@ is 'the files' "$(cd a/b/store && find . -type f)" "./inuse/$FIRST"
 serial=$(bytes_of "a/b/store/inuse/$FIRST" | cut -c17-32)
 is 'the file' "$(bytes_of "a/b/store/inuse/$FIRST")" "$(whole_file "$serial")"
 
+# ---- a journal that grows by files
+
+# Adler-32 of bytes in hexadecimal, and then of N bytes 5a
+adler_run() {
+    local low=1 high=0 at
+    for ((at = 0; at < ${#1}; at += 2)); do
+        low=$(((low + 16#${1:at:2}) % 65521))
+        high=$(((high + low) % 65521))
+    done
+    high=$(((high + $2 * low + 90 * ($2 * ($2 + 1) / 2)) % 65521))
+    low=$(((low + 90 * $2) % 65521))
+    little $((high * 65536 + low)) 4
+}
+
+# The start of an enqueue with N bytes of body: serial, rid, N
+enqueue() { printf '514c536502000000%s%s%s%s' "$1" "$(little "$2" 8)" "$(little 0 8)" "$(little "$3" 8)"; }
+
+# The whole record, its body N times 5a, padded to 128 bytes: serial, rid, N
+record() {
+    local start
+    start=$(enqueue "$1" "$2" "$3")
+    printf '%s' "$start"
+    if [ "$3" -gt 0 ]; then repeat 5a "$3"; fi
+    printf 'aeb3ac9a%s%s%s' "$(adler_run "$start" "$3")" "$1" "$(little "$2" 8)"
+    if [ $(((64 + $3) % 128)) -gt 0 ]; then repeat ff $((128 - (64 + $3) % 128)); fi
+}
+
+# N fillers: serial, rid, N
+fillers() {
+    local filler at
+    filler=514c537802000000$1$(little "$2" 8)$(repeat ff 104)
+    for ((at = 0; at < $3; at++)); do printf '%s' "$filler"; done
+}
+
+# The header of a file of queue a: serial, rid, first place, number
+header_of() {
+    local start
+    start=514c536602000000$1$(little "$2" 8)$(little 1 4)$(little 4 4)
+    start+=$(little "$3" 8)$(little "$4" 8)$(little 1 8)$(little 1 2)$(little 1 2)61
+    printf '%s%s%s' "$start" "$(adler "$start")" "$(repeat 00 $((4096 - 65)))"
+}
+
+# The N-th file in use of a store, and its serial
+file_at() { printf '%s/inuse/%019d.qls' "$1" "$2"; }
+serial_of() { bytes_of "$(file_at "$1" "$2")" | cut -c17-32; }
+
+# A script: a queue, and a put of each of these many bytes 5a
+puts() {
+    local size
+    printf 'queue a\n'
+    for size in "$@"; do
+        if [ "$size" -gt 0 ]; then printf 'put a %s\n' "$(repeat 5a "$size")"; else printf 'put a -\n'; fi
+    done
+}
+
+scenario='a put of an empty body'
+puts 0 >puts.txt
+run small/empty run 1 4 <puts.txt
+is status "$status" 0
+is replies "$out" $'ok\nok 1'
+one=$(serial_of small/empty 1)
+is 'file 1' "$(bytes_of "$(file_at small/empty 1)")" "$(header_of "$one" 0 4096 1)$(record "$one" 1 0)$(fillers "$one" 1 31)"
+
+scenario='a full file, and the next'
+puts 4032 1 >puts.txt
+run small/full run 1 4 <puts.txt
+is status "$status" 0
+is replies "$out" $'ok\nok 1\nok 2'
+one=$(serial_of small/full 1)
+two=$(serial_of small/full 2)
+is 'file 1' "$(bytes_of "$(file_at small/full 1)")" "$(header_of "$one" 0 4096 1)$(record "$one" 1 4032)"
+is 'file 2' "$(bytes_of "$(file_at small/full 2)")" "$(header_of "$two" 1 4096 2)$(record "$two" 2 1)$(fillers "$two" 2 31)"
+
+scenario='a record over two files'
+puts 4033 >puts.txt
+run small/over run 1 4 <puts.txt
+is status "$status" 0
+is replies "$out" $'ok\nok 1'
+one=$(serial_of small/over 1)
+two=$(serial_of small/over 2)
+whole=$(record "$one" 1 4033)
+is 'the record' "${#whole}" 8448
+is 'file 1' "$(bytes_of "$(file_at small/over 1)")" "$(header_of "$one" 0 4096 1)${whole:0:8192}"
+is 'file 2' "$(bytes_of "$(file_at small/over 2)")" "$(header_of "$two" 1 4224 2)${whole:8192}$(fillers "$two" 1 31)"
+
+scenario='a body of a mebibyte over 257 files'
+{ printf 'queue a\nput a '; head -c 2097152 /dev/zero | tr '\0' '5' | sed 's/55/5a/g'; printf '\n'; } >puts.txt
+run small/long run 1 4 <puts.txt
+is status "$status" 0
+is replies "$out" $'ok\nok 1'
+is 'files in use' "$(find small/long/inuse -name '*.qls' | wc -l)" 257
+one=$(serial_of small/long 1)
+start=$(enqueue "$one" 1 1048576)
+is 'file 1' "$(bytes_of "$(file_at small/long 1)")" "$(header_of "$one" 0 4096 1)$start$(repeat 5a 4056)"
+wrong=0
+covered=$(repeat 5a 4096)
+for number in 2 3 129 255 256; do
+    bytes=$(bytes_of "$(file_at small/long $number)")
+    [ "$bytes" = "$(header_of "${bytes:16:16}" 1 0 $number)$covered" ] || wrong=$((wrong + 1))
+done
+is 'wholly covered files that are wrong' "$wrong" 0
+last=$(serial_of small/long 257)
+tail=$(repeat 5a 40)aeb3ac9a$(adler_run "$start" 1048576)$one$(little 1 8)$(repeat ff 64)
+is 'file 257' "$(bytes_of "$(file_at small/long 257)")" "$(header_of "$last" 1 4224 257)$tail$(fillers "$last" 1 31)"
+
+scenario='a body of a byte more'
+{ printf 'queue a\nput a '; head -c 2097154 /dev/zero | tr '\0' '5'; printf '\n'; } >puts.txt
+run small/more run 1 4 <puts.txt
+is status "$status" 0
+is replies "$out" $'ok\nrefused line'
+is 'files in use' "$(find small/more/inuse -name '*.qls' | wc -l)" 1
+
 scenario='a folder that is empty, and what a cut left in it'
 mkdir -p store/empty/1/4 store/empty/2/8 store/inuse
 printf 'left' | tee "store/empty/1/4/$UNFINISHED" "store/empty/2/8/$UNFINISHED" >"store/inuse/$UNFINISHED"

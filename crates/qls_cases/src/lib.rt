@@ -4,6 +4,8 @@
 #[cfg(test)]
 mod faults;
 #[cfg(test)]
+mod growing;
+#[cfg(test)]
 mod outside;
 #[cfg(test)]
 mod pools;

@@ -12,7 +12,7 @@ use std::process::Abort;
 use std::test::Fail;
 
 // An empty file with so many bytes, all the same.
-fn empty_file(
+pub(crate) fn empty_file(
     alloc: Global,
     id: u64,
     part: u16,

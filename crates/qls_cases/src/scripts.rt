@@ -14,8 +14,8 @@ const SCRIPTS: [(&str, &str, &str, usize); 10] = [
     (
         "d run 1 4",
         "queue a\nput a 01\nput a 02\n",
-        "ok\nok 1\nrefused full\n",
-        1,
+        "ok\nok 1\nok 2\n",
+        2,
     ),
     (
         "d run 1 8",
@@ -88,15 +88,7 @@ fn long_lines_and_scripts_have_limits(rt: HostRuntime) -> Result<(), Fail> {
     let alloc = rt.alloc();
     for (words, before, byte, count, behind, answers, status) in [
         ("d run 1 2048", PUT, b'5', 2_097_152, "\n", "ok\nok 1\n", 0),
-        (
-            "d run 1 4",
-            PUT,
-            b'5',
-            2_097_152,
-            "",
-            "ok\nrefused full\n",
-            0,
-        ),
+        ("d run 1 4", PUT, b'5', 2_097_152, "", "ok\nok 1\n", 0),
         (
             "d run 1 2048",
             PUT,

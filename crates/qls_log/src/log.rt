@@ -8,7 +8,7 @@ ghost use Rattle.qls_pool.specs.Discipline.{Orderly};
 ghost use Rattle.qls_pool.specs.Serials.{DrawsTaken};
 ghost use Rattle.qls_blocks.specs.Batching.{laid_from};
 ghost use Rattle.qls_blocks.specs.Plans.{plan_of};
-ghost use Rattle.qls_log.specs.Logs.{IsLegalOpening, capacity_in};
+ghost use Rattle.qls_log.specs.Logs.{IsLegalOpening, IsSound, capacity_in};
 ghost use Rattle.qls_log.specs.Faults.{LogCauses, SiteCauses, Counts};
 ghost use Rattle.qls_log.specs.Taking.{TakesFiles, DrawsEach, MeetsEnd};
 ghost use Rattle.qls_log.specs.Spots.{spot_of};
@@ -85,6 +85,8 @@ impl Log {
         ensures pool { IfOk result (λ _. IfSome (S.told site.new) (OnDisk (IsWholePool pool.new))) }
         ensures reading { IfOk result (λ log. Tells (ReadsNone log) (S.told site.old) (S.told site.new)) }
         ensures stands { IfOk result (λ log. IfSome (S.told site.new) (OnDisk (StandsWith log []))) }
+        ensures sound { IfOk result IsSound }
+        ensures limit { pool.old.greatest < 2 ^ 62 → pool.new.greatest < 2 ^ 62 }
         ensures begins { IfOk result (λ log. Tells (BeginsReading log) (S.told site.old) (S.told site.new)) }
         ensures others { IfOk result (λ log. Tells (LeavesOthers log.files) (S.told site.old) (S.told site.new)) }
         ensures spent { result ≡ Err LogError.Spent → IsSpent home pool.new }
@@ -147,6 +149,8 @@ impl Log {
         ensures spots { IfOk result (λ spots. spots ≡ map (spot_of (capacity_in self.old.opening) self.old.newest) (laid_from self.old.used batch.now)) }
         ensures there { IfOk result (λ _. IfSome (S.told site.new) (OnDisk (LogThere self.new))) }
         ensures pool { IfOk result (λ _. IfSome (S.told site.new) (OnDisk (IsPoolOf pool.new []))) }
+        ensures sound { IfOk result (λ _. IsSound self.new) }
+        ensures limit { pool.old.greatest < 2 ^ 62 → pool.new.greatest < 2 ^ 62 }
         ensures stands { IfOk result (λ _. Tells (StandsBehind batch.now self.old self.new) (S.told site.old) (S.told site.new)) }
         ensures reading { IfOk result (λ _. Tells (ReadsOn batch.now self.old self.new) (S.told site.old) (S.told site.new)) }
         ensures others { IfOk result (λ _. Tells (LeavesOthers self.new.files) (S.told site.old) (S.told site.new)) }

@@ -39,6 +39,7 @@ fn take_file<S: Site, N: Serials>(
     ensures file { IfOk result (λ file. file.header ≡ header_for opening.now file.header.serial number fresh) }
     ensures told { IfOk result (λ file. Tells (TakesFile opening.now.home pool.old pool.new file) (S.told site.old) (S.told site.new)) }
     ensures legal { IfOk result (λ file. IsTrue (is_legal_header file.header)) }
+    ensures limit { pool.new.greatest < 2 ^ 62 }
     ensures pool { IfOk result (λ _. IfSome (S.told site.new) (OnDisk (IsPoolOf pool.new []))) }
     ensures whole { IfOk result (λ _. Carries (IsWholePool pool.old) (IsWholePool pool.new) (S.told site.old) (S.told site.new)) }
     ensures drawn { IfOk result (λ file. DrawsOne file (N.drawn serials.old) (N.drawn serials.new)) }
@@ -88,6 +89,7 @@ pub(crate) fn take_files<S: Site, N: Serials>(
     ensures newest { IfOk result (λ files. newest + length files.items < 2 ^ 62) }
     ensures told { IfOk result (λ files. Tells (TakesFiles opening.now.home pool.old pool.new files.items) (S.told site.old) (S.told site.new)) }
     ensures legal { IfOk result (λ files. AllByRecursion (λ h. IsTrue (is_legal_header h.header)) files.items) }
+    ensures limit { pool.old.greatest < 2 ^ 62 → pool.new.greatest < 2 ^ 62 }
     ensures drawn { IfOk result (λ files. DrawsEach files.items (N.drawn serials.old) (N.drawn serials.new)) }
     ensures whole { IfOk result (λ _. Carries (IsWholePool pool.old) (IsWholePool pool.new) (S.told site.old) (S.told site.new)) }
     ensures pool { IfOk result (λ _. IfSome (S.told site.new) (OnDisk (IsPoolOf pool.new []))) }

@@ -81,6 +81,7 @@ impl Pool {
         requires pool { IfSome (S.told site.old) (OnDisk (HasPool self.old)) }
         ensures home { IfOk result (λ blank. blank.home ≡ home) }
         ensures handed { IfOk result (λ blank. HandsOut home self.old self.new blank.id) }
+        ensures limit { self.new.greatest < 2 ^ 62 }
         ensures kept { IfErr result (λ _. self.new ≡ self.old) }
         ensures spent { (result ≡ Err TakeFault.Spent) ↔ IsSpent home self.old }
         ensures no_call { result ≡ Err TakeFault.Spent → (site.new ≡ site.old) × (serials.new ≡ serials.old) }

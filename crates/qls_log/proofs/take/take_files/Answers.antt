@@ -51,6 +51,7 @@ loop-at-preserved g c =
       whole =
           whole_then (IsWholePool c.args.pool.now) (IsWholePool c.loop-at.pool) (IsWholePool c.take_file.new.pool) (TakesFiles c.args.opening.now.home c.args.pool.now c.loop-at.pool c.loop-at.files.items) _ _ _
           c.loop-at.invariant.told c.loop-at.invariant.whole c.in_ok-file.ensures.whole;
+      limit = λ h. c.take_file.ensures.limit;
       none = search rules;
       some = search rules;
       below = search rules;

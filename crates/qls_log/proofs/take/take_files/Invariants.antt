@@ -26,6 +26,7 @@ invariant-loop-at g l = record {
   pool : IfSome (g.S.Site.told l.site) (OnDisk (IsPoolOf l.pool []));
   whole : Carries (IsWholePool l.fn.pool) (IsWholePool l.pool) (g.S.Site.told l.fn.site) (g.S.Site.told l.site);
   none : l.at ≡ 0 → l.pool ≡ l.fn.pool;
+  limit : l.fn.pool.greatest < 2 ^ 62 → l.pool.greatest < 2 ^ 62;
   some : 0 < l.at → IsSpent l.opening.home l.fn.pool → ⊥;
   below : 0 < l.at → l.newest < 2 ^ 62 - 1;
   sites : g.S.Site.faults l.fn.site ≤ g.S.Site.faults l.site;
