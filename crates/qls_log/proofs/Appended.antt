@@ -20,6 +20,7 @@ use Rattle.qls_log.specs.Writing.{HaveRoom, AreInUse, WritesAll, with_parts, wit
 use Rattle.qls_log.specs.Standing.{HasFiles, LogThere, RestsBut}
 use Rattle.qls_log.specs.Appending.{from_newest, written_files, written_place, batch_bytes, TakesAndWrites, LeavesOthers}
 use Rattle.qls_log.proofs.Gains.{GainedAll}
+use Rattle.qls_log.proofs.Quiets.{AreAmong, among_more, among_self}
 use Rattle.qls_log.proofs.Appends.{gains, sized, room, all_append, all_drop, all_used, enough_room, cut_last}
 use Rattle.qls_log.proofs.Gains.{has_files, others_all, answered_all}
 use Rattle.qls_blocks.proofs.Lengths.{length_of-with_fillers}
@@ -50,7 +51,7 @@ tail_length hs taken k some is = length-drop (length hs - 1) (hs ++ taken) ∙ o
 
 -- ---- sound again
 
-headed_own : (o : Opening) (newest : ℕ) (fs : List FreshFile) (hs : List HeadedFile) → AreHeaded o newest fs hs → AllByRecursion (IsOfOpening o) hs
+pub headed_own : (o : Opening) (newest : ℕ) (fs : List FreshFile) (hs : List HeadedFile) → AreHeaded o newest fs hs → AllByRecursion (IsOfOpening o) hs
 headed_own o newest [] [] t = tt
 headed_own o newest [] (h ∷ hs) t = absurd t
 headed_own o newest (f ∷ fs) [] t = absurd t
@@ -69,8 +70,8 @@ numbered_more o n newest (g ∷ hs) fs taken m t = (m.0, numbered_more o (n + 1)
 
 pub sound_after : (l : LogState) (fs : List FreshFile) (taken : List HeadedFile) (new : LogState) → IsSound l → AreHeaded l.opening l.newest fs taken → new.opening ≡ l.opening → new.files ≡ l.files ++ taken → new.newest ≡ l.newest + length taken
     → new.newest < 2 ^ 62 → (new.used % 4096 ≡ 0) × (new.used ≤ capacity_in l.opening) → new.rid < 2 ^ 62
-    → AllByRecursion (λ h. IsTrue (is_legal_header h.header)) taken → IsSound new
-sound_after l fs taken new s t o files newest small used rid legal =
+    → AllByRecursion (λ h. IsTrue (is_legal_header h.header)) taken → AreAmong (ids new.files) new.unsynced → IsSound new
+sound_after l fs taken new s t o files newest small used rid legal among =
     let size : length new.files ≡ length l.files + length taken = ap length files ∙ length-append l.files taken in
     let start : new.newest + 1 - length new.files ≡ l.newest + 1 - length l.files = omega (arith, size, newest, s.few) in
     record {
@@ -86,7 +87,25 @@ sound_after l fs taken new s t o files newest small used rid legal =
       newest = small;
       used = subst (λ (x : Opening). (new.used % 4096 ≡ 0) × (new.used ≤ capacity_in x)) (sym o) used;
       rid = rid;
+      unsynced = among;
     }
+
+-- the files that are written are among the log's
+among_later : (n : ℕ) (all rest : List ℕ) → AreAmong all rest → AreAmong (n ∷ all) rest
+among_later n all rest h = among_more n all rest h
+
+among_dropped : (k : ℕ) (hs : List HeadedFile) → AreAmong (ids hs) (ids (drop k hs))
+among_dropped zero hs = among_self (ids hs)
+among_dropped (suc k) [] = tt
+among_dropped (suc k) (h ∷ hs) = among_later h.id (ids hs) (ids (drop k hs)) (among_dropped k hs)
+
+among_cond : (x : Bool) (k : ℕ) (hs : List HeadedFile) → AreAmong (ids hs) (ids (cond x (drop 1 (drop k hs)) (drop k hs)))
+among_cond true k hs = subst (λ (gs : List HeadedFile). AreAmong (ids hs) (ids gs)) (sym (drop-drop 1 k hs)) (among_dropped (k + 1) hs)
+among_cond false k hs = among_dropped k hs
+
+pub among_written_files : (l : LogState) (taken files : List HeadedFile) → files ≡ l.files ++ taken → AreAmong (ids files) (ids (written_files l taken))
+among_written_files l taken files is =
+    subst (λ (hs : List HeadedFile). AreAmong (ids hs) (ids (written_files l taken))) (sym is) (among_cond (l.used == capacity_in l.opening) (length l.files - 1) (l.files ++ taken))
 
 -- ---- told
 

@@ -20,3 +20,5 @@ pub mod OwnSteps
 pub mod Making
 pub mod Going
 pub mod Quiets
+pub mod OwnWrites
+pub mod AppendSteps

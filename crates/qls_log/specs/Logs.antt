@@ -5,7 +5,7 @@ use Rattle.qls_model.specs.Limits.{is_partition, is_kib}
 use Rattle.qls_filehdr.specs.declared.FileHeader.{FileHeader}
 use Rattle.qls_filehdr.specs.Limits.{is_name, is_counter, is_first_place, is_legal_header}
 use Rattle.qls_blocks.specs.declared.plan.FreshFile.{FreshFile}
-use Rattle.qls_pool.specs.Files.{HeadedFile}
+use Rattle.qls_pool.specs.Files.{HeadedFile, is_among}
 use Rattle.qls_log.specs.declared.opening.Opening.{Opening}
 
 -- Files taken in this opening, oldest first, and the number of the newest file. So many bytes of the newest file's data area are
@@ -68,6 +68,10 @@ NumberedFrom n (h ∷ hs) newest = (h.header.number ≡ n) × NumberedFrom (n + 
 abbrev pub IsOfOpening : Opening → HeadedFile → Type 0
 IsOfOpening o h = h.header ≡ header_for o h.header.serial h.header.number (record { first = h.header.first; rid = h.header.rid })
 
+-- the ids of files
+abbrev pub ids : List HeadedFile → List ℕ
+ids hs = map (λ h. h.id) hs
+
 pub record IsSound (l : LogState) : Type 0 where
   pub opening : IsLegalOpening l.opening
   pub own : AllByRecursion (IsOfOpening l.opening) l.files
@@ -78,10 +82,7 @@ pub record IsSound (l : LogState) : Type 0 where
   pub newest : l.newest < 2 ^ 62
   pub used : (l.used % 4096 ≡ 0) × (l.used ≤ capacity_in l.opening)
   pub rid : l.rid < 2 ^ 62
-
--- the ids of files
-abbrev pub ids : List HeadedFile → List ℕ
-ids hs = map (λ h. h.id) hs
+  pub unsynced : AllByRecursion (λ id. is_among id (ids l.files) ≡ true) l.unsynced
 
 abbrev pub serials : List HeadedFile → List ℕ
 serials hs = map (λ h. h.header.serial) hs

@@ -1,9 +1,9 @@
 -- What a log's call does from each moment to the next: only its own journal changes.
-use Rattle.std.specs.Prelude.{◌≡◌, ℕ, ◌+◌, Bool, true, false, ◌&&◌, List, take, Option, Some, None, Result, Ok, Err}
+use Rattle.std.specs.Prelude.{◌≡◌, ℕ, ◌+◌, ◌-◌, ◌*◌, Bool, true, false, ◌&&◌, List, take, Option, Some, None, IfSome, Result, Ok, Err}
 use Rattle.std.specs.List.{AllByRecursion}
 use Rattle.qls_model.specs.Bytes.{same}
-use Rattle.qls_site.specs.Disk.{FileState, file_of, full_file}
-use Rattle.qls_site.specs.Content.{Moment, Content}
+use Rattle.qls_site.specs.Disk.{Disk, FileState, file_of, full_file}
+use Rattle.qls_site.specs.Content.{Moment, Content, Tells}
 use Rattle.qls_filehdr.specs.declared.JournalKind.{JournalKind}
 use Rattle.qls_filehdr.specs.declared.FileHeader.{FileHeader}
 use Rattle.qls_filehdr.specs.Header.{header_of}
@@ -11,10 +11,14 @@ use Rattle.qls_meaning.specs.Journals.{headed, is_in_use, is_of, same_kind}
 use Rattle.qls_meaning.specs.Dead.{newest_number}
 use Rattle.qls_meaning.specs.Orderly.{journal_on}
 use Rattle.qls_pool.specs.Discipline.{IsPoolStep}
-use Rattle.qls_pool.specs.Files.{IdsDiffer}
+use Rattle.qls_pool.specs.Files.{IdsDiffer, OnDisk}
 use Rattle.qls_pool.specs.Next.{HeadersStay}
-use Rattle.qls_pool.specs.Moments.{Passes, Arrives}
+use Rattle.qls_pool.specs.Moments.{Passes, Arrives, EndsIn}
+use Rattle.qls_pool.specs.Serials.{TakesNone}
 use Rattle.qls_log.specs.declared.opening.Opening.{Opening}
+use Rattle.qls_meaning.specs.Spent.{batch_meets_end}
+use Rattle.qls_log.specs.Logs.{LogState, capacity_in}
+use Rattle.qls_log.specs.Standing.{files_on}
 use Rattle.qls_log.specs.declared.fault.LogError.{LogError}
 use Rattle.qls_log.specs.declared.fault.LogError.TheVariants.{Failed, Draw, Spent, Memory}
 
@@ -51,6 +55,33 @@ pub record IsLogStep (o : Opening) (m n : Moment) : Type 0 where
   pub files : (id : ℕ) (f : FileState) → file_of id m.disk ≡ Some f → is_in_use f.place ≡ true → is_of o.kind o.name (headed (full_file f)) ≡ false
       → file_of id n.disk ≡ Some f
 
+-- ---- the log's own files
+
+-- the file is in use, and its header names the journal
+abbrev pub IsOwnFile : Opening → Option FileState → Type 0
+IsOwnFile o None = ⊥
+IsOwnFile o (Some f) = (is_in_use f.place ≡ true) × (is_of o.kind o.name (headed (full_file f)) ≡ true)
+
+-- ids differ, and each of these files is the journal's
+pub record AreOwn (o : Opening) (ids : List ℕ) (d : Disk) : Type 0 where
+  pub differ : IdsDiffer d
+  pub own : AllByRecursion (λ id. IsOwnFile o (file_of id d)) ids
+
+-- by the log's steps, no file comes into use, and these are the journal's still
+pub record KeepsOwn (o : Opening) (ids : List ℕ) (old new : Content) : Type 0 where
+  pub arrives : Arrives (IsLogStep o) old new
+  pub none : TakesNone old new
+  pub own : AreOwn o ids new.now.disk
+
+-- the same of calls of which the last one failed
+pub record PassesOwn (o : Opening) (old new : Content) : Type 0 where
+  pub passes : Passes (IsLogStep o) old new
+  pub none : TakesNone old new
+
+-- at Ok the files are the journal's still, after an error the calls were the log's
+abbrev pub EndsOwn : {X E : Type 0} → List ℕ → Result X E → Option Content → Option Content → Type 0
+EndsOwn ids r a b = (o : Opening) → IfSome a (OnDisk (AreOwn o ids)) → Tells (EndsIn (λ x. KeepsOwn o ids) (PassesOwn o) r) a b
+
 -- ---- what was drawn
 
 -- one number may be without a file where a call failed, or memory was wanting
@@ -70,3 +101,17 @@ GoesBy R (Err Spent) old new = Arrives R old new
 GoesBy R (Err Failed) old new = Passes R old new
 GoesBy R (Err Draw) old new = Passes R old new
 GoesBy R (Err Memory) old new = Passes R old new
+
+-- and no file comes into use
+abbrev pub GoesOwn : {X : Type 0} → Opening → Result X LogError → Content → Content → Type 0
+GoesOwn o r old new = GoesBy (IsLogStep o) r old new × TakesNone old new
+
+-- ---- what is left
+
+-- the bytes that are left in the log's files, those that a call took included
+abbrev pub room_on : LogState → Disk → ℕ
+room_on l d = let capacity = capacity_in l.opening in capacity * (newest_number (files_on l.opening d) - l.newest) + (capacity - l.used)
+
+-- the batch doesn't fit on the disk as it is, and the next file can't be had
+abbrev pub MeetsEndWith : LogState → ℕ → Disk → Type 0
+MeetsEndWith l needed d = batch_meets_end l.opening.home d (files_on l.opening d) true (room_on l d) needed ≡ true

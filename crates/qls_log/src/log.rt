@@ -5,14 +5,14 @@ ghost use Rattle.qls_site.specs.Disk.{IsQuiet};
 ghost use Rattle.qls_pool.specs.Pools.{PoolState, IsSpent};
 ghost use Rattle.qls_pool.specs.Files.{HeadedFile, IsPoolOf, IsWholePool, OnDisk, Carries};
 ghost use Rattle.qls_pool.specs.Discipline.{Orderly};
-ghost use Rattle.qls_pool.specs.Serials.{DrawsTaken};
-ghost use Rattle.qls_blocks.specs.Batching.{laid_from};
+ghost use Rattle.qls_pool.specs.Serials.{DrawsTaken, TakesNone};
+ghost use Rattle.qls_blocks.specs.Batching.{laid_from, length_of, block_length};
 ghost use Rattle.qls_blocks.specs.Plans.{plan_of};
 ghost use Rattle.qls_log.specs.Logs.{IsLegalOpening, IsSound, capacity_in};
 ghost use Rattle.qls_log.specs.Faults.{LogCauses, SiteCauses, Counts};
 ghost use Rattle.qls_log.specs.Taking.{TakesFiles, DrawsEach, MeetsEnd};
 ghost use Rattle.qls_log.specs.Spots.{spot_of};
-ghost use Rattle.qls_log.specs.Steps.{IsLogStep, GoesBy, is_exact};
+ghost use Rattle.qls_log.specs.Steps.{IsLogStep, GoesBy, MeetsEndWith, is_exact};
 ghost use Rattle.qls_log.specs.Standing.{LogThere, StandsWith, IsUnmarkedBehind, files_on};
 ghost use Rattle.qls_meaning.specs.Reading.{Read};
 ghost use Rattle.qls_log.specs.Reads.{IsRead, BeginsReading, ReadsOn};
@@ -159,6 +159,11 @@ impl Log {
         ensures cause { LogCauses (S.faults site.old) (S.faults site.new) (N.faults serials.old) (N.faults serials.new) result }
         ensures syncs { Counts (S.told site.old) result (length (plan_of batch.now self.old.used (capacity_in self.old.opening) self.old.rid).fresh) (S.syncs site.old) (S.syncs site.new) }
         ensures reads { S.reads site.new ≡ S.reads site.old }
+        ensures went { Tells (GoesBy (IsLogStep self.old.opening) result) (S.told site.old) (S.told site.new) }
+        ensures drew { DrawsTaken (is_exact result) (S.told site.old) (S.told site.new) (N.drawn serials.old) (N.drawn serials.new) }
+        ensures pending { IfOk result (λ _. Carries IsQuiet (IsQuietBut self.new.unsynced) (S.told site.old) (S.told site.new)) }
+        ensures whole { IfOk result (λ _. IfSome (S.told site.new) (OnDisk (IsWholePool pool.new))) }
+        ensures ends { result ≡ Err LogError.Spent → IfSome (S.told site.new) (OnDisk (MeetsEndWith self.old (block_length (length_of batch.now)))) }
     {
         self.ended = true;
         let opening = self.opening;
@@ -203,6 +208,8 @@ impl Log {
         ensures syncs { Counts (S.told site.old) result (length self.old.unsynced) (S.syncs site.old) (S.syncs site.new) }
         ensures reads { S.reads site.new ≡ S.reads site.old }
         ensures orderly { Orderly (λ _. Unit {0}) result (S.told site.old) (S.told site.new) }
+        ensures went { Tells (GoesBy (IsLogStep self.old.opening) result) (S.told site.old) (S.told site.new) }
+        ensures none { Tells TakesNone (S.told site.old) (S.told site.new) }
     {
         self.ended = true;
         sync_parts(site, &self.unsynced)?;

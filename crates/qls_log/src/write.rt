@@ -5,7 +5,10 @@ ghost use Rattle.qls_blocks.specs.Batching.{with_fillers};
 ghost use Rattle.qls_blocks.specs.Plans.{IsPlanOf};
 ghost use Rattle.qls_blocks.specs.Spelled.{spelled_over};
 ghost use Rattle.qls_pool.specs.Discipline.{Orderly};
+ghost use Rattle.qls_pool.specs.Files.{OnDisk};
+ghost use Rattle.qls_log.specs.declared.opening.Opening.{Opening};
 ghost use Rattle.qls_log.specs.Logs.{ids, serials};
+ghost use Rattle.qls_log.specs.Steps.{AreOwn, EndsOwn, GoesOwn};
 ghost use Rattle.qls_log.specs.Faults.{SiteCauses};
 ghost use Rattle.qls_log.specs.Writing.{HaveRoom, AreInUse, WritesParts, WritesAll, from_written};
 
@@ -35,6 +38,7 @@ pub(crate) fn write_parts<S: Site>(
     ensures syncs { S.syncs site.new ≡ S.syncs site.old }
     ensures reads { S.reads site.new ≡ S.reads site.old }
     ensures orderly { Orderly (AreInUse ids.now) result (S.told site.old) (S.told site.new) }
+    ensures own { EndsOwn ids.now result (S.told site.old) (S.told site.new) }
 {
     let mut at = from;
     let mut done = 0;
@@ -140,6 +144,7 @@ pub(crate) fn write_batch<S: Site>(
     ensures syncs { S.syncs site.new ≡ S.syncs site.old }
     ensures reads { S.reads site.new ≡ S.reads site.old }
     ensures orderly { Orderly (AreInUse (ids files.now)) result (S.told site.old) (S.told site.new) }
+    ensures own { (o : Opening) → IfSome (S.told site.old) (OnDisk (AreOwn o (ids files.now))) → Tells (GoesOwn o result) (S.told site.old) (S.told site.new) }
 {
     let list = serials_of(alloc, files)?;
     let bytes = batch.spell(plan, used, capacity, &list)?;

@@ -1,5 +1,6 @@
 use Rattle.std.proofs.Common.{◌≡◌, ◌+◌, ◌-◌, length, drop, take, get_or, rules}
-use Rattle.qls_log.proofs.Writes.{told_next, part_sectors, part_size, part_is, room_next, failed_in_order, in_order_next, some_left, each_next, each_next_done}
+use Rattle.qls_log.proofs.Writes.{told_next, part_sectors, part_size, part_is, room_next, failed_in_order, in_order_next, range_there, some_left, each_next, each_next_done}
+use Rattle.qls_log.proofs.OwnWrites.{kept_next, failed_own}
 use Rattle.qls_log.proofs.write.write_parts.Goals as goal
 
 pub write_part-requires-clause-sectors : goal.write_part-requires-clause-sectors
@@ -35,4 +36,14 @@ loop-id-preserved g c =
       syncs = search rules;
       reads = search rules;
       orderly = in_order_next c.loop-id.id-index (4096 + c.loop-id.at) c.args.ids.now part _ _ _ c.loop-id-test.true c.loop-id.invariant.orderly c.in_ok-write_part.ensures.told;
+      own = kept_next c.loop-id.id-index c.loop-id.at c.args.ids.now part _ _ _ c.loop-id-test.true c.loop-id.invariant.own
+          (range_there c.args.capacity c.loop-id.id-index c.loop-id.at (length c.args.bytes.now - c.loop-id.done) c.part_length-more.result c.args.ids.now part _ c.loop-id-test.true size c.part_length-more.ensures.exact c.loop-id.invariant.at.1 c.loop-id.invariant.there) c.in_ok-write_part.ensures.told;
     }
+
+pub returns-in_err-write_part-clause-own : goal.returns-in_err-write_part-clause-own
+returns-in_err-write_part-clause-own g c =
+    let part = take (c.loop-id.done + c.part_length-more.result - c.loop-id.done) (drop c.loop-id.done c.args.bytes.now) in
+    let size : length part ≡ c.part_length-more.result = part_size c.loop-id.done c.part_length-more.result (c.args.capacity - c.loop-id.at) c.args.bytes.now c.part_length-more.ensures.exact in
+    failed_own c.loop-id.id-index c.loop-id.at c.args.ids.now part c.in_err-write_part.field-0.0 c.from_residual.result _ _ _ c.loop-id-test.true c.from_residual.ensures.0 c.loop-id.invariant.own
+    (range_there c.args.capacity c.loop-id.id-index c.loop-id.at (length c.args.bytes.now - c.loop-id.done) c.part_length-more.result c.args.ids.now part _ c.loop-id-test.true size c.part_length-more.ensures.exact c.loop-id.invariant.at.1 c.loop-id.invariant.there)
+    c.in_err-write_part.ensures.told

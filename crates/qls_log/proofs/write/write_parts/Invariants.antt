@@ -1,6 +1,7 @@
 use Rattle.std.proofs.Common.{◌≡◌, ℕ, ◌+◌, ◌-◌, ◌*◌, ◌%◌, ◌<◌, ◌≤◌, drop, length, IfSome}
 use Rattle.qls_site.specs.Content.{Tells}
 use Rattle.qls_log.proofs.Writes.{WritesOn, InOrder}
+use Rattle.qls_log.proofs.OwnWrites.{KeptSo}
 use Rattle.qls_log.specs.Writing.{HaveRoom}
 use Rattle.qls_log.proofs.write.write_parts.Given as goal
 
@@ -16,4 +17,5 @@ invariant-loop-id g l = record {
   syncs : g.S.Site.syncs l.site ≡ g.S.Site.syncs l.fn.site;
   reads : g.S.Site.reads l.site ≡ g.S.Site.reads l.fn.site;
   orderly : InOrder l.ids (g.S.Site.told l.fn.site) (g.S.Site.told l.site);
+  own : KeptSo l.ids (g.S.Site.told l.fn.site) (g.S.Site.told l.site);
 }

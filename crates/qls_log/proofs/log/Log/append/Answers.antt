@@ -1,11 +1,11 @@
-use Rattle.std.proofs.Common.{◌≡◌, ◌+◌, ◌-◌, ◌*◌, ◌/◌, ◌%◌, ◌<◌, ◌≤◌, [], ◌++◌, List, length, drop, false, ◌^◌, IfSome, refl, sym, ap, ◌∙◌, subst, rules}
+use Rattle.std.proofs.Common.{◌≡◌, ℕ, true, Ok, Err, if◌then◌else◌, ◌==◌, ◌+◌, ◌-◌, ◌*◌, ◌/◌, ◌%◌, ◌<◌, ◌≤◌, [], ◌++◌, List, length, drop, false, ◌^◌, IfSome, refl, sym, ap, ◌∙◌, subst, rules}
 use Rattle.std.specs.List.{AllByRecursion}
 use Rattle.qls_site.specs.Content.{Tells}
 use Rattle.qls_blocks.specs.declared.plan.FreshFile.{FreshFile}
 use Rattle.qls_blocks.specs.declared.plan.Plan.{Plan}
 use Rattle.qls_blocks.specs.Plans.{plan_of}
 use Rattle.qls_pool.specs.Files.{HeadedFile, OnDisk}
-use Rattle.qls_log.specs.Logs.{LogState, FitsFile, IsSound, AreHeaded, capacity_in, ids}
+use Rattle.qls_log.specs.Logs.{LogState, FitsFile, IsSound, AreHeaded, capacity_in, ids, serials}
 use Rattle.qls_log.specs.Taking.{DrawsEach}
 use Rattle.qls_log.specs.Writing.{HaveRoom, from_written}
 use Rattle.qls_log.specs.Standing.{LogThere}
@@ -13,10 +13,21 @@ use Rattle.qls_log.specs.Appending.{FollowRids, HasAppended, TakesAndWrites, Sta
 use Rattle.qls_log.proofs.Fits.{plan_fits, filled_legal, rid_behind, rid_of_some}
 use Rattle.qls_log.proofs.Sizes.{block_facts}
 use Rattle.qls_log.proofs.Stands.{told_stands}
-use Rattle.qls_log.proofs.Appended.{sound_capacity, told_room, headed_count, tail_length, sound_after, told_appended, told_writes, told_there, told_pool_after, told_others_after, batch_size}
+use Rattle.qls_log.proofs.Appended.{sound_capacity, among_written_files, told_room, headed_count, tail_length, sound_after, told_appended, told_writes, told_there, told_pool_after, told_others_after, batch_size}
 use Rattle.qls_log.specs.Reads.{ReadsOn}
 use Rattle.qls_log.proofs.Behind.{told_reads_on}
-use Rattle.qls_log.proofs.Going.{told_may}
+use Rattle.qls_model.specs.declared.bytes.Seq.{Seq}
+use Rattle.qls_blocks.specs.Batching.{with_fillers, length_of, block_length}
+use Rattle.qls_blocks.specs.Spelled.{spelled_over}
+use Rattle.qls_pool.specs.Moments.{Arrives}
+use Rattle.qls_pool.proofs.Moments.{told_arrives}
+use Rattle.qls_pool.proofs.Serials.{drawn_any, drawn_none}
+use Rattle.qls_log.specs.Steps.{IsLogStep, GoesBy, AreOwn, MeetsEndWith, is_exact}
+use Rattle.qls_log.proofs.OwnWrites.{goes_of, none_of}
+use Rattle.qls_log.proofs.AppendSteps.{told_newest, told_meets, told_whole_after}
+use Rattle.qls_log.proofs.Quiets.{told_pending}
+use Rattle.qls_log.proofs.Going.{told_may, told_on, told_handed, draws_on, draws_handed, draws_nothing}
+use Rattle.qls_log.proofs.Quiets.{AreAmong}
 use Rattle.qls_log.proofs.log.Log.append.Goals as goal
 
 pub take_files-requires-clause-fits : goal.take_files-requires-clause-fits
@@ -55,10 +66,14 @@ invariant_of-self-2 g c = λ e.
     let taken : List HeadedFile = c.in_ok-taken.taken.items in
     let files : new.files ≡ l.files ++ taken = c.in_ok-append.ensures.items in
     let count : length taken ≡ length c.as_slice-fresh.result.now = headed_count l.opening l.newest c.as_slice-fresh.result.now taken c.in_ok-taken.ensures.headers in
+    let over : c.files_from-over.result.now ≡ from_newest l taken = search rules in
+    let written : c.in_ok-written.written ≡ ids (from_written c.capacity-capacity.result l.used c.files_from-over.result.now) = c.in_ok-written.ensures.written in
+    let unsynced : new.unsynced ≡ ids (written_files l taken) = written ∙ (λ i. ids (from_written (cap i) l.used (over i))) in
     sound_after l c.as_slice-fresh.result.now taken new sound c.in_ok-taken.ensures.headers refl files (ap (λ n. l.newest + n) (sym count)) (subst (λ n. l.newest + n < 2 ^ 62) count c.in_ok-taken.ensures.newest)
     (c.used_behind-self-inside.ensures.blocks, subst (λ n. c.used_behind-self-inside.result ≤ n) cap c.used_behind-self-inside.ensures.within)
     (subst (λ n. n < 2 ^ 62) (sym c.last_rid-self-inside.ensures.exact) (rid_behind l.rid c.args.batch.now (subst (λ (x : LogState). FollowRids x.rid c.args.batch.now) (sym c.self.view_is) c.requires.rids)))
     c.in_ok-taken.ensures.legal
+    (subst (AreAmong (ids new.files)) (sym unsynced) (among_written_files l taken new.files files))
 
 pub returns-clause-appended : goal.returns-clause-appended
 returns-clause-appended g c =
@@ -218,3 +233,104 @@ take_files-requires-clause-start g c =
     let l : LogState = record { opening = c.self.inside.opening; files = c.self.inside.files.items; newest = c.self.inside.newest; used = c.self.inside.used; rid = c.self.inside.rid; unsynced = c.self.inside.unsynced; ended = c.self.inside.ended } in
     let sound : IsSound l = c.self.invariant (ap (λ (x : LogState). x.ended) c.self.view_is ∙ c.requires.unended) in
     told_may l c.args.pool.now _ sound (subst (λ (x : LogState). IfSome (g.S.Site.told c.args.site.now) (OnDisk (LogThere x))) (sym c.self.view_is) c.requires.there) c.requires.pool
+
+pub returns-in_err-plan-clause-drew : goal.returns-in_err-plan-clause-drew
+returns-in_err-plan-clause-drew g c =
+    draws_nothing (IsLogStep c.args.self.now.opening) (is_exact c.from_residual.result) _ _
+
+pub returns-in_err-taken-clause-ends : goal.returns-in_err-taken-clause-ends
+returns-in_err-taken-clause-ends g c = λ e.
+    let l : LogState = record { opening = c.self.inside.opening; files = c.self.inside.files.items; newest = c.self.inside.newest; used = c.self.inside.used; rid = c.self.inside.rid; unsynced = c.self.inside.unsynced; ended = c.self.inside.ended } in
+    let sound : IsSound l = c.self.invariant (ap (λ (x : LogState). x.ended) c.self.view_is ∙ c.requires.unended) in
+    let cap : c.capacity-capacity.result ≡ capacity_in l.opening = c.capacity-capacity.ensures.exact in
+    let needed : c.in_ok-plan.plan.length ≡ block_length (length_of c.args.batch.now) = c.in_ok-plan.ensures.own.bytes in
+    let count : length c.as_slice-fresh.result.now ≡ (l.used + block_length (length_of c.args.batch.now) - 1) / capacity_in l.opening =
+    ap length c.as_slice-fresh.ensures.same ∙ c.in_ok-plan.ensures.own.files ∙ (λ i. (l.used + needed i - 1) / cap i) in
+    subst (λ (x : LogState). IfSome (g.S.Site.told c.take_files.new.site) (OnDisk (MeetsEndWith x (block_length (length_of c.args.batch.now))))) c.self.view_is
+    (told_meets l c.take_files.new.pool (length c.as_slice-fresh.result.now) (block_length (length_of c.args.batch.now)) _ (sound_capacity l.opening sound.opening).0 sound.used.1 count (c.in_err-taken.ensures.ends (search rules)))
+
+pub returns-in_err-append-clause-drew : goal.returns-in_err-append-clause-drew
+returns-in_err-append-clause-drew g c =
+    drawn_any (is_exact c.from_residual-in_err-append.result) _ _ _ _ c.in_ok-taken.ensures.drew
+
+pub returns-in_err-written-clause-went : goal.returns-in_err-written-clause-went
+returns-in_err-written-clause-went g c =
+    let l : LogState = record { opening = c.self.inside.opening; files = c.self.inside.files.items; newest = c.self.inside.newest; used = c.self.inside.used; rid = c.self.inside.rid; unsynced = c.self.inside.unsynced; ended = c.self.inside.ended } in
+    let sound : IsSound l = c.self.invariant (ap (λ (x : LogState). x.ended) c.self.view_is ∙ c.requires.unended) in
+    let cap : c.capacity-capacity.result ≡ capacity_in l.opening = c.capacity-capacity.ensures.exact in
+    let taken : List HeadedFile = c.in_ok-taken.taken.items in
+    let over : c.files_from-over.result.now ≡ from_newest l taken = search rules in
+    let flushed : l.unsynced ≡ [] = ap (λ (x : LogState). x.unsynced) c.self.view_is ∙ c.requires.flushed in
+    let there : IfSome (g.S.Site.told c.args.site.now) (OnDisk (LogThere l)) = subst (λ (x : LogState). IfSome (g.S.Site.told c.args.site.now) (OnDisk (LogThere x))) (sym c.self.view_is) c.requires.there in
+    let own : IfSome (g.S.Site.told c.take_files.new.site) (OnDisk (AreOwn l.opening (ids c.files_from-over.result.now))) =
+    subst (λ (hs : List HeadedFile). IfSome (g.S.Site.told c.take_files.new.site) (OnDisk (AreOwn l.opening (ids hs)))) (sym over)
+    (told_newest l sound flushed c.args.pool.now c.take_files.new.pool taken c.as_slice-fresh.result.now c.in_ok-taken.ensures.headers c.in_ok-taken.ensures.legal _ _ c.in_ok-taken.ensures.told there c.requires.pool) in
+    let is : Err c.in_err-written.field-0.0 ≡ c.from_residual-in_err-written.result = search (rules, c.from_residual-in_err-written.ensures) in
+    let wrote = c.in_err-written.ensures.own l.opening own in
+    let went = told_on (IsLogStep l.opening) {X = Seq ℕ} (Err c.in_err-written.field-0.0) _ _ _ c.in_ok-taken.ensures.went (goes_of {X = Seq ℕ} l.opening (Err c.in_err-written.field-0.0) _ _ wrote) in
+    subst (λ (x : LogState). Tells (GoesBy (IsLogStep x.opening) c.from_residual-in_err-written.result) (g.S.Site.told c.args.site.now) (g.S.Site.told c.write_batch.new.site)) c.self.view_is
+    (told_handed (IsLogStep l.opening) (Seq ℕ) c.in_err-written.field-0.0 c.from_residual-in_err-written.result _ _ is went)
+
+pub returns-in_err-written-clause-drew : goal.returns-in_err-written-clause-drew
+returns-in_err-written-clause-drew g c =
+    let l : LogState = record { opening = c.self.inside.opening; files = c.self.inside.files.items; newest = c.self.inside.newest; used = c.self.inside.used; rid = c.self.inside.rid; unsynced = c.self.inside.unsynced; ended = c.self.inside.ended } in
+    let sound : IsSound l = c.self.invariant (ap (λ (x : LogState). x.ended) c.self.view_is ∙ c.requires.unended) in
+    let cap : c.capacity-capacity.result ≡ capacity_in l.opening = c.capacity-capacity.ensures.exact in
+    let taken : List HeadedFile = c.in_ok-taken.taken.items in
+    let over : c.files_from-over.result.now ≡ from_newest l taken = search rules in
+    let flushed : l.unsynced ≡ [] = ap (λ (x : LogState). x.unsynced) c.self.view_is ∙ c.requires.flushed in
+    let there : IfSome (g.S.Site.told c.args.site.now) (OnDisk (LogThere l)) = subst (λ (x : LogState). IfSome (g.S.Site.told c.args.site.now) (OnDisk (LogThere x))) (sym c.self.view_is) c.requires.there in
+    let own : IfSome (g.S.Site.told c.take_files.new.site) (OnDisk (AreOwn l.opening (ids c.files_from-over.result.now))) =
+    subst (λ (hs : List HeadedFile). IfSome (g.S.Site.told c.take_files.new.site) (OnDisk (AreOwn l.opening (ids hs)))) (sym over)
+    (told_newest l sound flushed c.args.pool.now c.take_files.new.pool taken c.as_slice-fresh.result.now c.in_ok-taken.ensures.headers c.in_ok-taken.ensures.legal _ _ c.in_ok-taken.ensures.told there c.requires.pool) in
+    let is : Err c.in_err-written.field-0.0 ≡ c.from_residual-in_err-written.result = search (rules, c.from_residual-in_err-written.ensures) in
+    let wrote = c.in_err-written.ensures.own l.opening own in
+    let went = told_on (IsLogStep l.opening) {X = Seq ℕ} (Err c.in_err-written.field-0.0) _ _ _ c.in_ok-taken.ensures.went (goes_of {X = Seq ℕ} l.opening (Err c.in_err-written.field-0.0) _ _ wrote) in
+    draws_handed (Seq ℕ) c.in_err-written.field-0.0 c.from_residual-in_err-written.result _ _ _ _ is
+    (draws_on (IsLogStep l.opening) {X = Seq ℕ} (Err c.in_err-written.field-0.0) _ _ _ _ _ _ c.in_ok-taken.ensures.went (goes_of {X = Seq ℕ} l.opening (Err c.in_err-written.field-0.0) _ _ wrote) c.in_ok-taken.ensures.drew
+    (drawn_none (is_exact {X = Seq ℕ} (Err c.in_err-written.field-0.0)) _ _ _ _ (none_of {X = Seq ℕ} l.opening (Err c.in_err-written.field-0.0) _ _ wrote) refl))
+
+pub returns-clause-went : goal.returns-clause-went
+returns-clause-went g c =
+    let l : LogState = record { opening = c.self.inside.opening; files = c.self.inside.files.items; newest = c.self.inside.newest; used = c.self.inside.used; rid = c.self.inside.rid; unsynced = c.self.inside.unsynced; ended = c.self.inside.ended } in
+    let sound : IsSound l = c.self.invariant (ap (λ (x : LogState). x.ended) c.self.view_is ∙ c.requires.unended) in
+    let cap : c.capacity-capacity.result ≡ capacity_in l.opening = c.capacity-capacity.ensures.exact in
+    let taken : List HeadedFile = c.in_ok-taken.taken.items in
+    let over : c.files_from-over.result.now ≡ from_newest l taken = search rules in
+    let flushed : l.unsynced ≡ [] = ap (λ (x : LogState). x.unsynced) c.self.view_is ∙ c.requires.flushed in
+    let there : IfSome (g.S.Site.told c.args.site.now) (OnDisk (LogThere l)) = subst (λ (x : LogState). IfSome (g.S.Site.told c.args.site.now) (OnDisk (LogThere x))) (sym c.self.view_is) c.requires.there in
+    let own : IfSome (g.S.Site.told c.take_files.new.site) (OnDisk (AreOwn l.opening (ids c.files_from-over.result.now))) =
+    subst (λ (hs : List HeadedFile). IfSome (g.S.Site.told c.take_files.new.site) (OnDisk (AreOwn l.opening (ids hs)))) (sym over)
+    (told_newest l sound flushed c.args.pool.now c.take_files.new.pool taken c.as_slice-fresh.result.now c.in_ok-taken.ensures.headers c.in_ok-taken.ensures.legal _ _ c.in_ok-taken.ensures.told there c.requires.pool) in
+    let wrote = c.in_ok-written.ensures.own l.opening own in
+    let went : Tells (Arrives (IsLogStep l.opening)) (g.S.Site.told c.take_files.new.site) (g.S.Site.told c.write_batch.new.site) = goes_of {X = Seq ℕ} l.opening (Ok c.in_ok-written.written) _ _ wrote in
+    subst (λ (x : LogState). Tells (Arrives (IsLogStep x.opening)) (g.S.Site.told c.args.site.now) (g.S.Site.told c.write_batch.new.site)) c.self.view_is
+    (told_arrives (IsLogStep l.opening) _ _ _ c.in_ok-taken.ensures.went went)
+
+pub returns-clause-drew : goal.returns-clause-drew
+returns-clause-drew g c =
+    let l : LogState = record { opening = c.self.inside.opening; files = c.self.inside.files.items; newest = c.self.inside.newest; used = c.self.inside.used; rid = c.self.inside.rid; unsynced = c.self.inside.unsynced; ended = c.self.inside.ended } in
+    let sound : IsSound l = c.self.invariant (ap (λ (x : LogState). x.ended) c.self.view_is ∙ c.requires.unended) in
+    let cap : c.capacity-capacity.result ≡ capacity_in l.opening = c.capacity-capacity.ensures.exact in
+    let taken : List HeadedFile = c.in_ok-taken.taken.items in
+    let over : c.files_from-over.result.now ≡ from_newest l taken = search rules in
+    let flushed : l.unsynced ≡ [] = ap (λ (x : LogState). x.unsynced) c.self.view_is ∙ c.requires.flushed in
+    let there : IfSome (g.S.Site.told c.args.site.now) (OnDisk (LogThere l)) = subst (λ (x : LogState). IfSome (g.S.Site.told c.args.site.now) (OnDisk (LogThere x))) (sym c.self.view_is) c.requires.there in
+    let own : IfSome (g.S.Site.told c.take_files.new.site) (OnDisk (AreOwn l.opening (ids c.files_from-over.result.now))) =
+    subst (λ (hs : List HeadedFile). IfSome (g.S.Site.told c.take_files.new.site) (OnDisk (AreOwn l.opening (ids hs)))) (sym over)
+    (told_newest l sound flushed c.args.pool.now c.take_files.new.pool taken c.as_slice-fresh.result.now c.in_ok-taken.ensures.headers c.in_ok-taken.ensures.legal _ _ c.in_ok-taken.ensures.told there c.requires.pool) in
+    let wrote = c.in_ok-written.ensures.own l.opening own in
+    let went : Tells (Arrives (IsLogStep l.opening)) (g.S.Site.told c.take_files.new.site) (g.S.Site.told c.write_batch.new.site) = goes_of {X = Seq ℕ} l.opening (Ok c.in_ok-written.written) _ _ wrote in
+    draws_on (IsLogStep l.opening) {X = Seq ℕ} (Ok c.in_ok-written.written) _ _ _ _ _ _ c.in_ok-taken.ensures.went went c.in_ok-taken.ensures.drew
+    (drawn_none true _ _ _ _ (none_of {X = Seq ℕ} l.opening (Ok c.in_ok-written.written) _ _ wrote) refl)
+
+pub returns-clause-pending : goal.returns-clause-pending
+returns-clause-pending g c =
+    let l : LogState = record { opening = c.self.inside.opening; files = c.self.inside.files.items; newest = c.self.inside.newest; used = c.self.inside.used; rid = c.self.inside.rid; unsynced = c.self.inside.unsynced; ended = c.self.inside.ended } in
+    let sound : IsSound l = c.self.invariant (ap (λ (x : LogState). x.ended) c.self.view_is ∙ c.requires.unended) in
+    told_pending l.opening.home c.args.pool.now c.take_files.new.pool c.in_ok-taken.taken.items c.capacity-capacity.result c.in_ok-written.written (if l.used == c.capacity-capacity.result then 0 else l.used)
+    (spelled_over c.capacity-capacity.result (serials c.files_from-over.result.now) l.used (with_fillers c.args.batch.now)) _ _ _ c.in_ok-taken.ensures.told c.in_ok-written.ensures.told
+
+pub returns-clause-whole : goal.returns-clause-whole
+returns-clause-whole g c =
+    told_whole_after _ c.take_files.new.pool _ (returns-clause-there g c) (returns-clause-pool g c)

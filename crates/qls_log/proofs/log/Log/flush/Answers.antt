@@ -1,13 +1,16 @@
-use Rattle.std.proofs.Common.{[], Ok, Err, IfSome, sym, subst, rules}
+use Rattle.std.proofs.Common.{◌≡◌, [], Ok, Err, IfSome, sym, ap, ◌∙◌, subst, rules}
 use Rattle.qls_site.specs.Content.{Tells}
 use Rattle.qls_blocks.specs.Parts.{Syncs, HasFiles}
 use Rattle.qls_pool.specs.Files.{OnDisk, Carries}
 use Rattle.qls_log.specs.declared.fault.LogError.{LogError}
-use Rattle.qls_log.specs.Logs.{LogState}
+use Rattle.qls_log.specs.Logs.{LogState, IsSound}
 use Rattle.qls_log.specs.Standing.{LogThere, IsUnmarkedBehind}
 use Rattle.qls_log.specs.Appending.{StandsStill, IsQuietBut, ReadsInImages}
 use Rattle.qls_log.specs.Reads.{IsRead}
 use Rattle.qls_log.proofs.Flushes.{there_are, waiting_of, told_same, told_pool, told_quiet, told_images, told_there, told_still, told_read, told_behind, told_orderly_ok, told_orderly_err}
+use Rattle.qls_log.specs.Faults.{fault_of_site}
+use Rattle.qls_log.specs.Steps.{IsLogStep, GoesBy}
+use Rattle.qls_log.proofs.OwnWrites.{told_log_own, told_syncs, stopped_own, ended_own, goes_of, none_of}
 use Rattle.qls_log.proofs.log.Log.flush.Goals as goal
 
 pub sync_parts-requires : goal.sync_parts-requires
@@ -69,3 +72,37 @@ pub returns-clause-stands : goal.returns-clause-stands
 returns-clause-stands g c =
     subst (λ (l : LogState). Tells (StandsStill c.args.self.now l) (g.S.Site.told c.args.site.now) (g.S.Site.told c.sync_parts.new.site)) (sym (returns-clause-log g c))
     (told_still c.args.self.now c.self.inside.unsynced (Ok c.in_ok-sync_parts.field-0) _ _ c.in_ok-sync_parts.ensures.told)
+
+pub returns-in_err-sync_parts-clause-went : goal.returns-in_err-sync_parts-clause-went
+returns-in_err-sync_parts-clause-went g c =
+    let l : LogState = record { opening = c.self.inside.opening; files = c.self.inside.files.items; newest = c.self.inside.newest; used = c.self.inside.used; rid = c.self.inside.rid; unsynced = c.self.inside.unsynced; ended = c.self.inside.ended } in
+    let sound : IsSound l = c.self.invariant (ap (λ (x : LogState). x.ended) c.self.view_is ∙ c.requires.unended) in
+    let own = told_log_own l _ sound (subst (λ (x : LogState). IfSome (g.S.Site.told c.args.site.now) (OnDisk (LogThere x))) (sym c.self.view_is) c.requires.there) in
+    let is : Err (fault_of_site c.in_err-sync_parts.field-0.0) ≡ c.from_residual.result = search (rules, c.from_residual.ensures) in
+    let went = stopped_own l.opening l.unsynced c.in_err-sync_parts.field-0.0 c.from_residual.result _ _ is (told_syncs l.opening l.unsynced (Err c.in_err-sync_parts.field-0.0) _ _ own c.in_err-sync_parts.ensures.told) in
+    subst (λ (x : LogState). Tells (GoesBy (IsLogStep x.opening) c.from_residual.result) (g.S.Site.told c.args.site.now) (g.S.Site.told c.sync_parts.new.site)) c.self.view_is (goes_of l.opening c.from_residual.result _ _ went)
+
+pub returns-in_err-sync_parts-clause-none : goal.returns-in_err-sync_parts-clause-none
+returns-in_err-sync_parts-clause-none g c =
+    let l : LogState = record { opening = c.self.inside.opening; files = c.self.inside.files.items; newest = c.self.inside.newest; used = c.self.inside.used; rid = c.self.inside.rid; unsynced = c.self.inside.unsynced; ended = c.self.inside.ended } in
+    let sound : IsSound l = c.self.invariant (ap (λ (x : LogState). x.ended) c.self.view_is ∙ c.requires.unended) in
+    let own = told_log_own l _ sound (subst (λ (x : LogState). IfSome (g.S.Site.told c.args.site.now) (OnDisk (LogThere x))) (sym c.self.view_is) c.requires.there) in
+    let is : Err (fault_of_site c.in_err-sync_parts.field-0.0) ≡ c.from_residual.result = search (rules, c.from_residual.ensures) in
+    let went = stopped_own l.opening l.unsynced c.in_err-sync_parts.field-0.0 c.from_residual.result _ _ is (told_syncs l.opening l.unsynced (Err c.in_err-sync_parts.field-0.0) _ _ own c.in_err-sync_parts.ensures.told) in
+    none_of l.opening c.from_residual.result _ _ went
+
+pub returns-clause-went : goal.returns-clause-went
+returns-clause-went g c =
+    let l : LogState = record { opening = c.self.inside.opening; files = c.self.inside.files.items; newest = c.self.inside.newest; used = c.self.inside.used; rid = c.self.inside.rid; unsynced = c.self.inside.unsynced; ended = c.self.inside.ended } in
+    let sound : IsSound l = c.self.invariant (ap (λ (x : LogState). x.ended) c.self.view_is ∙ c.requires.unended) in
+    let own = told_log_own l _ sound (subst (λ (x : LogState). IfSome (g.S.Site.told c.args.site.now) (OnDisk (LogThere x))) (sym c.self.view_is) c.requires.there) in
+    let went = ended_own (Unit {0}) l.opening l.unsynced c.in_ok-sync_parts.field-0 (tt {0}) _ _ (told_syncs l.opening l.unsynced (Ok c.in_ok-sync_parts.field-0) _ _ own c.in_ok-sync_parts.ensures.told) in
+    subst (λ (x : LogState). Tells (GoesBy (IsLogStep x.opening) (Ok (tt {0}))) (g.S.Site.told c.args.site.now) (g.S.Site.told c.sync_parts.new.site)) c.self.view_is (goes_of l.opening (Ok (tt {0})) _ _ went)
+
+pub returns-clause-none : goal.returns-clause-none
+returns-clause-none g c =
+    let l : LogState = record { opening = c.self.inside.opening; files = c.self.inside.files.items; newest = c.self.inside.newest; used = c.self.inside.used; rid = c.self.inside.rid; unsynced = c.self.inside.unsynced; ended = c.self.inside.ended } in
+    let sound : IsSound l = c.self.invariant (ap (λ (x : LogState). x.ended) c.self.view_is ∙ c.requires.unended) in
+    let own = told_log_own l _ sound (subst (λ (x : LogState). IfSome (g.S.Site.told c.args.site.now) (OnDisk (LogThere x))) (sym c.self.view_is) c.requires.there) in
+    let went = ended_own (Unit {0}) l.opening l.unsynced c.in_ok-sync_parts.field-0 (tt {0}) _ _ (told_syncs l.opening l.unsynced (Ok c.in_ok-sync_parts.field-0) _ _ own c.in_ok-sync_parts.ensures.told) in
+    none_of l.opening (Ok (tt {0})) _ _ went
