@@ -334,3 +334,6 @@ returns-clause-pending g c =
 pub returns-clause-whole : goal.returns-clause-whole
 returns-clause-whole g c =
     told_whole_after _ c.take_files.new.pool _ (returns-clause-there g c) (returns-clause-pool g c)
+
+pub returns-clause-sound : goal.returns-clause-sound
+returns-clause-sound g c = invariant_of-self-2 g c refl
