@@ -1,3 +1,4 @@
 pub mod Readings
 pub mod Histories
 pub mod Areas
+pub mod Undamaged
