@@ -16,3 +16,6 @@ pub mod Stands
 pub mod Places
 pub mod Behind
 pub mod Puts
+pub mod SoundRules
+pub mod Sound
+pub mod SoundDisk

@@ -1,5 +1,5 @@
 -- Where records lie in the files of one epoch, and where their reading ends.
-use Rattle.std.proofs.Common.{◌≡◌, ◌⊎◌, inl, inr, ℕ, suc, ◌+◌, ◌-◌, ◌*◌, ◌/◌, ◌%◌, ◌^◌, ◌<◌, ◌≤◌, Bool, true, false, cond, ◌==◌, eqb, ltb, List, [], ◌∷◌, ◌++◌, map, length, drop, Option, Some, None, refl, sym, ap, ap₂, ◌∙◌, subst, arith, length-append, append-nil, T, ltb→lt}
+use Rattle.std.proofs.Common.{◌≡◌, ◌⊎◌, inl, inr, ℕ, suc, ◌+◌, ◌-◌, ◌*◌, ◌/◌, ◌%◌, ◌^◌, ◌<◌, ◌≤◌, Bool, true, false, cond, eqb, ltb, List, [], ◌∷◌, ◌++◌, map, length, drop, Option, Some, None, refl, sym, ap, ap₂, ◌∙◌, subst, arith, length-append, append-nil, T, ltb→lt}
 use Rattle.std.proofs.Math.Nat.{div-eq_of_lt, mod-eq_of_lt, mod-eq-sub-mod}
 use Rattle.std.proofs.Math.Seq.{drop-drop, drop-append_seam}
 use Rattle.std.specs.List.{AllByRecursion}
@@ -10,7 +10,7 @@ use Rattle.qls_record.specs.Record.{Record, record_length}
 use Rattle.qls_record.proofs.RecordLength.{record_length_least}
 use Rattle.qls_filehdr.specs.declared.JournalKind.{JournalKind}
 use Rattle.qls_filehdr.specs.declared.FileHeader.{FileHeader}
-use Rattle.qls_meaning.specs.Journals.{Headed, epochs, onto_epoch}
+use Rattle.qls_meaning.specs.Journals.{Headed}
 use Rattle.qls_meaning.specs.Reading.{Holder, Placed, Read, holder, stream, record_in, end_from, first_place, epoch_reading, number_of, place_of, located, reads_of, journal_reading}
 use Rattle.qls_laws.specs.Readings.{Stand}
 use Rattle.qls_laws.specs.Areas.{IsUnmarkedFrom, IsUnmarkedAt, UnmarkedFor}
@@ -18,26 +18,18 @@ use Rattle.qls_laws.proofs.Ends.{record_fits}
 use Rattle.qls_laws.proofs.Unique.{epoch_only_reading}
 use Rattle.qls_laws.proofs.Unmarked.{held_unmarked}
 use Rattle.qls_laws.proofs.CleanAreas.{number_past}
+use Rattle.qls_laws.proofs.Claimed.{HaveEpoch, one_run}
 use Rattle.qls_blocks.specs.Batching.{length_of, laid_from}
 use Rattle.qls_blocks.specs.Laws.{HaveCapacity}
 use Rattle.qls_blocks.proofs.Stream.{holder-behind}
 use Rattle.qls_pool.specs.Files.{HeadedFile}
-use Rattle.qls_pool.proofs.Disks.{eqb_own, eqb_is}
+use Rattle.qls_pool.proofs.Disks.{eqb_is}
 use Rattle.qls_log.specs.Logs.{NumberedFrom}
 use Rattle.qls_log.specs.Standing.{AreThoseFiles, LastIsUnmarked}
 use Rattle.qls_log.specs.Reads.{read_in}
 use Rattle.qls_log.proofs.Streams.{HaveSameHeads, same_length, holder_front, is_reading}
 
 -- ---- one epoch
-
-abbrev pub HaveEpoch : ℕ → List Headed → Type 0
-HaveEpoch e fs = AllByRecursion (λ f. f.header.epoch ≡ e) fs
-
-one_run : (e : ℕ) (f : Headed) (fs : List Headed) → HaveEpoch e (f ∷ fs) → epochs (f ∷ fs) ≡ (f ∷ fs) ∷ []
-one_run e f [] h = refl
-one_run e f (g ∷ fs) h =
-    ap (onto_epoch f) (one_run e g fs h.1)
-    ∙ ap (λ b. cond b ((f ∷ g ∷ fs) ∷ []) ((f ∷ []) ∷ (g ∷ fs) ∷ [])) (ap (λ n. n == g.header.epoch) (h.0 ∙ sym h.1.0) ∙ eqb_own g.header.epoch)
 
 pub reading_of_run : (e : ℕ) (kind : JournalKind) (name : List ℕ) (fs : List Headed) → HaveEpoch e fs → 0 < length fs
     → journal_reading (record { kind = kind; name = name; files = fs }) ≡ map (located fs) (epoch_reading true fs)

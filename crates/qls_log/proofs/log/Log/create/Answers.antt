@@ -9,6 +9,8 @@ use Rattle.qls_log.specs.Taking.{TakesFiles}
 use Rattle.qls_log.specs.Standing.{LogThere, StandsWith}
 use Rattle.qls_log.specs.Appending.{ReadsNone}
 use Rattle.qls_log.specs.Reads.{BeginsReading}
+use Rattle.qls_log.specs.Soundness.{BeginsUndamaged}
+use Rattle.qls_log.proofs.Sound.{told_begun}
 use Rattle.qls_log.proofs.News.{spent_at_once, told_new, told_start, told_reads, told_begins, told_others, room_of}
 use Rattle.qls_log.proofs.log.Log.create.Goals as goal
 
@@ -58,3 +60,12 @@ returns-clause-begins g c =
     subst (λ (l : LogState). Tells (BeginsReading l) (g.S.Site.told c.args.site.now) (g.S.Site.told c.take_files.new.site)) (sym n.log)
     (told_begins o c.args.pool.now c.take_files.new.pool n.file n.header (subst (λ (hs : List HeadedFile). AllByRecursion (λ h. IsTrue (is_legal_header h.header)) hs) files c.in_ok-files.ensures.legal) _ _ (room_of o c.requires.legal.kib)
     (subst (λ (hs : List HeadedFile). Tells (TakesFiles o.home c.args.pool.now c.take_files.new.pool hs) (g.S.Site.told c.args.site.now) (g.S.Site.told c.take_files.new.site)) files c.in_ok-files.ensures.told) c.requires.pool c.requires.new)
+
+pub returns-clause-sound : goal.returns-clause-sound
+returns-clause-sound g c =
+    let o : Opening = record { kind = c.args.kind; name = c.args.name; home = c.args.home; epoch = 1 } in
+    let n = returns-clause-new g c in
+    let there = subst (λ (l : LogState). IfSome (g.S.Site.told c.take_files.new.site) (OnDisk (LogThere l))) n.log (returns-clause-there g c) in
+    let begins = subst (λ (l : LogState). Tells (BeginsReading l) (g.S.Site.told c.args.site.now) (g.S.Site.told c.take_files.new.site)) n.log (returns-clause-begins g c) in
+    subst (λ (l : LogState). Tells (BeginsUndamaged l) (g.S.Site.told c.args.site.now) (g.S.Site.told c.take_files.new.site)) (sym n.log)
+    (told_begun o n.file (g.S.Site.told c.args.site.now) (g.S.Site.told c.take_files.new.site) n.header there begins)
