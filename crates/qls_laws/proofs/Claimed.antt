@@ -1,5 +1,5 @@
 -- The rules on a journal of one epoch, as facts on its files.
-use Rattle.std.proofs.Common.{◌≡◌, ℕ, ◌+◌, ◌^◌, ◌<◌, ◌≤◌, Bool, true, false, cond, ◌&&◌, ◌||◌, List, [], ◌∷◌, ◌++◌, length, Ok, Err, refl, sym, ap, ◌∙◌, arith, eqb, ltb, leb}
+use Rattle.std.proofs.Common.{◌≡◌, ℕ, ◌+◌, ◌^◌, ◌<◌, ◌≤◌, Bool, true, false, cond, ◌&&◌, ◌||◌, List, [], ◌∷◌, ◌++◌, map, length, Ok, Err, refl, sym, ap, ◌∙◌, arith, eqb, ltb, leb, append-nil}
 use Rattle.std.proofs.lemmas.Bool.Decides.{nat_tests}
 use Rattle.std.specs.List.{AllByRecursion, filter}
 use Rattle.qls_shape.specs.Claims.{claim, each, of_file, ◌>>=◌, ◌>>◌}
@@ -9,7 +9,7 @@ use Rattle.qls_filehdr.specs.declared.JournalKind.{JournalKind}
 use Rattle.qls_filehdr.specs.declared.Rule.{Rule}
 use Rattle.qls_filehdr.specs.declared.Rule.TheVariants as rule
 use Rattle.qls_meaning.specs.Journals.{Headed, epochs, onto_epoch}
-use Rattle.qls_meaning.specs.Reading.{Placed, end_from, first_place, epoch_reading}
+use Rattle.qls_meaning.specs.Reading.{Placed, end_from, first_place, epoch_reading, located, reads_of, journal_reading}
 use Rattle.qls_meaning.specs.Damage.{Checked, Spread, spread, rid_before, first_in, order_claim, file_claims, end_claim, epoch_claims, epochs_claims, oldest_rid, reading_claims}
 use Rattle.qls_laws.proofs.Rules.{ats}
 
@@ -62,6 +62,11 @@ one_run e f [] h = refl
 one_run e f (g ∷ fs) h =
     ap (onto_epoch f) (one_run e g fs h.1)
     ∙ ap (λ b. cond b ((f ∷ g ∷ fs) ∷ []) ((f ∷ []) ∷ (g ∷ fs) ∷ [])) (equal f.header.epoch g.header.epoch (h.0 ∙ sym h.1.0))
+
+pub reading_of_run : (e : ℕ) (kind : JournalKind) (name : List ℕ) (fs : List Headed) → HaveEpoch e fs → 0 < length fs
+    → journal_reading (record { kind = kind; name = name; files = fs }) ≡ map (located fs) (epoch_reading true fs)
+reading_of_run e kind name [] h some = absurd (omega arith)
+reading_of_run e kind name (f ∷ fs) h some = ap (reads_of true) (one_run e f fs h) ∙ append-nil (map (located (f ∷ fs)) (epoch_reading true (f ∷ fs)))
 
 -- ---- the claims of a file
 

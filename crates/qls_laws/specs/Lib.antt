@@ -2,3 +2,4 @@ pub mod Readings
 pub mod Histories
 pub mod Areas
 pub mod Undamaged
+pub mod Returns
