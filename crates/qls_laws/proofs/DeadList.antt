@@ -1,17 +1,16 @@
 -- The prepared list means the same without its dead oldest file.
-use Rattle.std.proofs.Common.{◌≡◌, ℕ, ◌<◌, ◌≤◌, Bool, true, false, cond, not, ◌&&◌, ◌||◌, ◌==◌, List, [], ◌∷◌, ◌++◌, map, length, drop, Option, Some, None, refl, sym, ap, ap₂, ◌∙◌, subst, arith, eqb, ltb}
+use Rattle.std.proofs.Common.{◌≡◌, ℕ, ◌<◌, ◌≤◌, Bool, true, false, cond, not, ◌&&◌, ◌||◌, List, [], ◌∷◌, ◌++◌, map, length, drop, Option, Some, None, refl, sym, ap, ◌∙◌, subst, arith, eqb, ltb}
 use Rattle.std.proofs.lemmas.Bool.Decides.{nat_tests}
 use Rattle.std.specs.List.{AllByRecursion, filter, list_any}
 use Rattle.qls_model.specs.Bytes.{same, comes_before}
 use Rattle.qls_record.specs.declared.Kind.{Kind}
 use Rattle.qls_record.specs.declared.Kind.TheVariants.{Enqueue, Dequeue, Commit, Abort, Filler}
 use Rattle.qls_record.specs.Record.{Record, is_enqueue}
-use Rattle.qls_decide.specs.declared.ListState.{ListState}
 use Rattle.qls_decide.specs.declared.ListEntry.{ListEntry}
 use Rattle.qls_decide.specs.Entries.{entry_of, without_entry, placed_entry, with_entry}
 use Rattle.qls_filehdr.specs.declared.JournalKind.{JournalKind}
 use Rattle.qls_meaning.specs.Journals.{Headed, Journal, is_queue}
-use Rattle.qls_meaning.specs.Reading.{Placed, Read, first_place, epoch_reading, end_from, located}
+use Rattle.qls_meaning.specs.Reading.{Placed, first_place, epoch_reading, end_from, located}
 use Rattle.qls_meaning.specs.Damage.{rid_at_end}
 use Rattle.qls_meaning.specs.Dead.{held_rids, is_dead, has_dead_oldest, first_is_dead}
 use Rattle.qls_meaning.specs.Meaning.{records_of, queue_of, entries_of}
@@ -19,7 +18,7 @@ use Rattle.qls_meaning.specs.Replay.{xid_in, entry_state, decision, is_undecided
 use Rattle.qls_laws.specs.Returns.{without_oldest, IsWholeRun}
 use Rattle.qls_laws.proofs.Reaches.{records_stand}
 use Rattle.qls_laws.proofs.Claimed.{reading_of_run}
-use Rattle.qls_laws.proofs.Leftover.{Left, all_moved}
+use Rattle.qls_laws.proofs.Leftover.{all_moved}
 use Rattle.qls_laws.proofs.Returned.{parted, keeps}
 use Rattle.qls_laws.proofs.Rising.{Follow, rids_follow, follow_apart, enqueues_above, enqueues_below}
 use Rattle.qls_laws.proofs.EntryOrder.{Sorted, Lacks, sorted_filtered, sorted_with, with_in, with_out, filters_swap, without_lacking, none_lacking, lacks_if_none, lacks_filtered, found_xid, found_in, lacks_out}

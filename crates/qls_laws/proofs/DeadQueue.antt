@@ -1,5 +1,5 @@
 -- A queue means the same without its dead oldest file.
-use Rattle.std.proofs.Common.{◌≡◌, ◌⊎◌, inl, inr, drop, ℕ, ◌+◌, ◌-◌, ◌<◌, ◌≤◌, Bool, true, false, cond, not, ◌&&◌, ◌||◌, List, [], ◌∷◌, ◌++◌, map, length, Option, Some, None, refl, sym, ap, ap₂, ◌∙◌, subst, arith, eqb, ltb, leb, append_assoc, append-nil, length-append}
+use Rattle.std.proofs.Common.{◌≡◌, ◌⊎◌, inl, inr, drop, ℕ, ◌-◌, ◌<◌, ◌≤◌, Bool, true, false, cond, not, ◌&&◌, ◌||◌, List, [], ◌∷◌, ◌++◌, map, length, Option, Some, None, refl, sym, ap, ◌∙◌, subst, arith, eqb, ltb, leb, append_assoc, append-nil, length-append}
 use Rattle.std.proofs.lemmas.Bool.{and_parts, cases_lt}
 use Rattle.std.proofs.lemmas.Bool.Decides.{nat_tests}
 use Rattle.std.proofs.lemmas.List.{map-append}
@@ -17,7 +17,7 @@ use Rattle.qls_record.specs.declared.Kind.TheVariants.{Enqueue, Dequeue, Commit,
 use Rattle.qls_record.specs.Record.{Record, is_enqueue}
 use Rattle.qls_filehdr.specs.declared.JournalKind.{JournalKind}
 use Rattle.qls_meaning.specs.Journals.{Headed, Journal, is_queue}
-use Rattle.qls_meaning.specs.Reading.{Holder, Placed, Read, holder, stream, first_place, epoch_reading, number_of, located, journal_reading}
+use Rattle.qls_meaning.specs.Reading.{Placed, Read, holder, stream, first_place, number_of, located, journal_reading}
 use Rattle.qls_meaning.specs.Damage.{rid_at_end}
 use Rattle.qls_meaning.specs.Dead.{newest_number, held_rids, holds, is_dead, has_dead_oldest, first_is_dead}
 use Rattle.qls_meaning.specs.Meaning.{records_of, queue_of, entries_of}

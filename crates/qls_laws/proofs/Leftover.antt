@@ -1,27 +1,21 @@
 -- A journal without its oldest file: what is read of it, and that it breaks no rule.
-use Rattle.std.proofs.Common.{◌≡◌, ◌⊎◌, inl, inr, ℕ, zero, suc, ◌+◌, ◌-◌, ◌/◌, ◌^◌, ◌<◌, ◌≤◌, Bool, true, false, cond, not, ◌&&◌, List, [], ◌∷◌, ◌++◌, map, length, drop, Option, Some, None, Ok, refl, sym, ap, ap₂, ◌∙◌, subst, arith, eqb, ltb, leb, length-append}
+use Rattle.std.proofs.Common.{◌≡◌, ◌⊎◌, inl, inr, ℕ, ◌+◌, ◌-◌, ◌/◌, ◌^◌, ◌<◌, ◌≤◌, Bool, true, false, cond, ◌&&◌, List, [], ◌∷◌, ◌++◌, map, length, drop, Some, None, refl, sym, ap, ap₂, ◌∙◌, subst, arith, eqb, ltb, leb, length-append}
 use Rattle.std.proofs.Math.Seq.{drop-drop, drop-append_seam}
 use Rattle.std.proofs.lemmas.Bool.{cases_lt}
 use Rattle.std.proofs.lemmas.Bool.Decides.{nat_tests}
-use Rattle.std.proofs.lemmas.List.{map-append}
 use Rattle.std.specs.List.{AllByRecursion, filter}
 use Rattle.qls_record.specs.Record.{Record, rid_given, is_enqueue}
 use Rattle.qls_filehdr.specs.declared.FileHeader.{FileHeader}
-use Rattle.qls_filehdr.specs.declared.JournalKind.{JournalKind}
-use Rattle.qls_filehdr.specs.declared.Rule.TheVariants as rule
-use Rattle.qls_shape.specs.Claims.{claim, of_file, ◌>>◌}
-use Rattle.qls_meaning.specs.Journals.{Headed, Journal, epochs}
-use Rattle.qls_meaning.specs.Reading.{Holder, Placed, Read, holder, stream, record_in, held_record, held_length, length_in, end_from, first_place, epoch_reading, epoch_end, number_of, place_of, located, reads_of, journal_reading}
-use Rattle.qls_meaning.specs.Damage.{rid_before, rid_at_end, first_in, oldest_rid, next_claims, chain_claims}
-use Rattle.qls_meaning.specs.Dead.{after_end, past_in, past_files, oldest_number}
+use Rattle.qls_meaning.specs.Journals.{Headed}
+use Rattle.qls_meaning.specs.Reading.{Placed, holder, stream, record_in, held_record, held_length, length_in, end_from, first_place, epoch_reading}
+use Rattle.qls_meaning.specs.Damage.{rid_before, rid_at_end, first_in, oldest_rid}
 use Rattle.qls_laws.specs.Readings.{Stand, IsReading, IsSpelledAt}
-use Rattle.qls_laws.specs.Undamaged.{BreaksNoRule}
-use Rattle.qls_laws.specs.Returns.{without_oldest, starts_elsewhere, HasPlaces, IsWholeRun}
+use Rattle.qls_laws.specs.Returns.{HasPlaces}
 use Rattle.qls_laws.proofs.Ends.{record_fits, record_in-epoch_end}
-use Rattle.qls_laws.proofs.Reaches.{records_stand}
+use Rattle.qls_laws.proofs.Reaches.{records_stand, stand_end}
 use Rattle.qls_laws.proofs.Unique.{epoch_only_reading, spelled_where_read, read_where_spelled}
-use Rattle.qls_laws.proofs.Rules.{Ascends, ats, records_ascend, rid_before-append, end_from-append, filter-append}
-use Rattle.qls_laws.proofs.Claimed.{HaveEpoch, one_run, InOrder, in_file, KeepsRules, AllKeep, keeps_rules, rules_kept, next_ok, then_ok, claimed}
+use Rattle.qls_laws.proofs.Rules.{Ascends, ats, rid_before-append, end_from-append, filter-append}
+use Rattle.qls_laws.proofs.Claimed.{InOrder, in_file, KeepsRules, AllKeep}
 
 less : (m n : ℕ) → m < n → ltb m n ≡ true
 less m n h = grind (arith, nat_tests)
@@ -158,16 +152,16 @@ cut n p fs (r ∷ rs) s l = by (cases_lt p n) (cut n r.after fs rs s.3 l)
     }
     by (inr h) c = record { front = []; rest = r ∷ rs; is = refl; before = tt; reaches = h; stand_front = tt; stand = s }
 
-before_later : (m n : ℕ) (rs : List Placed) → m ≤ n → AllBefore m rs → AllBefore n rs
+pub before_later : (m n : ℕ) (rs : List Placed) → m ≤ n → AllBefore m rs → AllBefore n rs
 before_later m n [] h b = tt
 before_later m n (r ∷ rs) h b = (omega (arith, h, b.0), before_later m n rs h b.1)
 
-first_past : (start size : ℕ) (xs : List Placed) (ps : List ℕ) → AllBefore start xs → first_in start size (ats xs ++ ps) ≡ first_in start size ps
+pub first_past : (start size : ℕ) (xs : List Placed) (ps : List ℕ) → AllBefore start xs → first_in start size (ats xs ++ ps) ≡ first_in start size ps
 first_past start size [] ps b = refl
 first_past start size (x ∷ xs) ps b =
     ap (λ t. cond t (first_in start size (ats xs ++ ps)) (cond (ltb x.at (start + size)) (4096 + (x.at - start)) 0)) (less x.at start b.0) ∙ first_past start size xs ps b.1
 
-ats_append : (xs ys : List Placed) (ps : List ℕ) → ats (xs ++ ys) ++ ps ≡ ats xs ++ (ats ys ++ ps)
+pub ats_append : (xs ys : List Placed) (ps : List ℕ) → ats (xs ++ ys) ++ ps ≡ ats xs ++ (ats ys ++ ps)
 ats_append [] ys ps = refl
 ats_append (x ∷ xs) ys ps = ap (λ (qs : List ℕ). x.at ∷ qs) (ats_append xs ys ps)
 
@@ -182,7 +176,7 @@ rid_past q (x ∷ xs) ys rid b =
     and_true true = refl
     and_true false = refl
 
-none_in : (start size : ℕ) (xs : List Placed) → AllBefore start xs → filter (in_file start size) xs ≡ []
+pub none_in : (start size : ℕ) (xs : List Placed) → AllBefore start xs → filter (in_file start size) xs ≡ []
 none_in start size [] b = refl
 none_in start size (x ∷ xs) b =
     ap (λ t. cond (t && ltb x.at (start + size)) (x ∷ filter (in_file start size) xs) (filter (in_file start size) xs)) (not_most start x.at b.0) ∙ none_in start size xs b.1
@@ -229,17 +223,13 @@ module _ (begin end rid : ℕ) (reads xs ys : List Placed) (q : ℕ) (is : reads
 none_spelled : (fs : List Headed) (p : ℕ) → record_in fs p ≡ None → (r : Record) → IsSpelledAt fs p r → ⊥
 none_spelled fs p none r s = let e = read_where_spelled fs p r s in absurd (cc)
 
-is_reading : (fs : List Headed) (p : ℕ) (rs : List Placed) → Stand fs p rs → record_in fs (end_from p rs) ≡ None → IsReading fs p rs
+pub is_reading : (fs : List Headed) (p : ℕ) (rs : List Placed) → Stand fs p rs → record_in fs (end_from p rs) ≡ None → IsReading fs p rs
 is_reading fs p [] h none = none_spelled fs p none
 is_reading fs p (r ∷ rs) h none = (h.0, spelled_where_read fs p r.what h.1, h.2, is_reading fs r.after rs h.3 none)
 
 -- what stands from the first place up to a place where nothing does is the reading
-reading_from : (fs : List Headed) (rs : List Placed) → Stand fs (first_place fs) rs → record_in fs (end_from (first_place fs) rs) ≡ None → epoch_reading true fs ≡ rs
+pub reading_from : (fs : List Headed) (rs : List Placed) → Stand fs (first_place fs) rs → record_in fs (end_from (first_place fs) rs) ≡ None → epoch_reading true fs ≡ rs
 reading_from fs rs h none = sym (epoch_only_reading true fs rs (is_reading fs (first_place fs) rs h none))
-
-stand_end : (fs : List Headed) (p : ℕ) (rs : List Placed) → Stand fs p rs → p ≤ end_from p rs
-stand_end fs p [] h = omega arith
-stand_end fs p (r ∷ rs) h = let later = stand_end fs r.after rs h.3 in omega (arith, later, h.2)
 
 stand_within : (fs : List Headed) (p : ℕ) (rs : List Placed) → Stand fs p rs → p ≤ length (stream fs) → end_from p rs ≤ length (stream fs)
 stand_within fs p [] h l = l
@@ -414,8 +404,7 @@ module _ (f : Headed) (fs : List Headed) (l : Left f fs) (rid : ℕ) where
       → AllKeep (first_place fs) (end_from (first_place fs) (epoch_reading true fs)) (oldest_rid fs) (epoch_reading true fs) 0 fs × (oldest_rid fs ≡ next_rid)
   rules_left some reached there keep =
       let here : AllKeep first end rid reads size fs = subst (λ p. AllKeep first end rid reads p fs) (zero size) keep.1 in
-      let is : oldest_rid fs ≡ next_rid = rid_next some reached fs here there in
-      (
+      let is : oldest_rid fs ≡ next_rid = rid_next some reached fs here there in (
         subst (λ (X : Type 0). X) (sym (λ i. AllKeep (first_place fs) (end_from (first_place fs) (l.reading i)) (is i) (l.reading i) 0 fs)) (all_left 0 fs some (subst (λ p. AllKeep first end rid reads p fs) (plus size) here)),
         is,
       )

@@ -1,24 +1,23 @@
 -- The laws on a journal without its oldest file.
-use Rattle.std.proofs.Common.{◌≡◌, ◌⊎◌, inl, inr, ℕ, suc, ◌+◌, ◌-◌, ◌<◌, ◌≤◌, Bool, true, false, cond, not, List, [], ◌∷◌, ◌++◌, map, length, drop, Option, Some, None, Result, Ok, Err, refl, sym, ap, ap₂, ◌∙◌, subst, arith, eqb, ltb}
+use Rattle.std.proofs.Common.{◌≡◌, ◌⊎◌, inl, inr, ℕ, ◌+◌, ◌-◌, ◌<◌, ◌≤◌, Bool, true, false, cond, not, List, [], ◌∷◌, ◌++◌, map, length, drop, Option, Some, Result, Ok, refl, sym, ap, ap₂, ◌∙◌, subst, arith, eqb, ltb}
 use Rattle.std.proofs.lemmas.Bool.{cases_lt}
 use Rattle.std.proofs.lemmas.Bool.Decides.{nat_tests}
 use Rattle.std.proofs.lemmas.List.{map-append}
 use Rattle.std.specs.List.{AllByRecursion, filter}
 use Rattle.qls_record.specs.Record.{Record}
-use Rattle.qls_shape.specs.Claims.{claim, of_file, ◌>>=◌, ◌>>◌}
+use Rattle.qls_shape.specs.Claims.{claim, of_file, ◌>>◌}
 use Rattle.qls_filehdr.specs.declared.JournalKind.{JournalKind}
 use Rattle.qls_filehdr.specs.declared.Rule.{Rule}
 use Rattle.qls_filehdr.specs.declared.Rule.TheVariants as rule
-use Rattle.qls_meaning.specs.Journals.{Headed, Journal, epochs}
-use Rattle.qls_meaning.specs.Reading.{Holder, Placed, Read, holder, stream, record_in, held_record, end_from, first_place, epoch_reading, epoch_end, number_of, place_of, located, journal_reading}
-use Rattle.qls_meaning.specs.Damage.{oldest_rid, rid_at_end, next_claims, chain_claims}
-use Rattle.qls_meaning.specs.Dead.{after_end, past_in, past_files, oldest_number}
+use Rattle.qls_meaning.specs.Journals.{Headed, Journal}
+use Rattle.qls_meaning.specs.Reading.{Holder, Placed, Read, holder, stream, held_record, end_from, first_place, epoch_reading, epoch_end, number_of, place_of, located, journal_reading}
+use Rattle.qls_meaning.specs.Damage.{rid_at_end, next_claims, chain_claims}
+use Rattle.qls_meaning.specs.Dead.{after_end, past_in, oldest_number}
 use Rattle.qls_laws.specs.Readings.{Stand}
-use Rattle.qls_laws.specs.Undamaged.{BreaksNoRule}
-use Rattle.qls_laws.specs.Returns.{without_oldest, starts_elsewhere, HasPlaces, IsWholeRun}
+use Rattle.qls_laws.specs.Returns.{without_oldest, starts_elsewhere, IsWholeRun}
 use Rattle.qls_laws.proofs.Ends.{record_fits}
 use Rattle.qls_laws.proofs.Rules.{filter-append}
-use Rattle.qls_laws.proofs.Claimed.{HaveEpoch, one_run, reading_of_run, AllKeep, keeps_rules, rules_kept, next_ok}
+use Rattle.qls_laws.proofs.Claimed.{one_run, reading_of_run, AllKeep, keeps_rules, rules_kept, next_ok}
 use Rattle.qls_laws.proofs.Leftover.{Left, left, all_moved, moved, ends_left, rules_left, behind, within}
 
 less : (m n : ℕ) → m < n → ltb m n ≡ true
@@ -162,10 +161,10 @@ module _ (kind : JournalKind) (name : List ℕ) (f g : Headed) (fs : List Headed
   pub reading_without : journal_reading (run kind name (g ∷ fs)) ≡ filter (starts_elsewhere f.header.number) (journal_reading (run kind name (f ∷ g ∷ fs)))
   reading_without =
       sym (
-          ap (filter (starts_elsewhere f.header.number)) reading_all
-          ∙ filter-append (starts_elsewhere f.header.number) (map (located (f ∷ g ∷ fs)) parted.front) (journal_reading (run kind name (g ∷ fs)))
-          ∙ ap₂ (λ (x y : List Read). x ++ y) (none_front f (g ∷ fs) parted.front parted.before)
-          (ap (filter (starts_elsewhere f.header.number)) again ∙ all_rest f.header.number (g ∷ fs) (first_place (g ∷ fs)) parted.reads (numbers_rise f (g ∷ fs) w.rules.chain) parted.stand ∙ sym again)
+      ap (filter (starts_elsewhere f.header.number)) reading_all
+      ∙ filter-append (starts_elsewhere f.header.number) (map (located (f ∷ g ∷ fs)) parted.front) (journal_reading (run kind name (g ∷ fs)))
+      ∙ ap₂ (λ (x y : List Read). x ++ y) (none_front f (g ∷ fs) parted.front parted.before)
+      (ap (filter (starts_elsewhere f.header.number)) again ∙ all_rest f.header.number (g ∷ fs) (first_place (g ∷ fs)) parted.reads (numbers_rise f (g ∷ fs) w.rules.chain) parted.stand ∙ sym again)
       )
     where
       again : journal_reading (run kind name (g ∷ fs)) ≡ map (located (g ∷ fs)) parted.reads

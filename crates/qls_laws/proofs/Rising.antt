@@ -1,5 +1,5 @@
 -- Rids rise from record to record of a reading that breaks no rule.
-use Rattle.std.proofs.Common.{◌≡◌, ◌⊎◌, inl, inr, ℕ, ◌+◌, ◌^◌, ◌<◌, ◌≤◌, Bool, true, false, cond, ◌&&◌, List, [], ◌∷◌, ◌++◌, length, refl, sym, ap, ◌∙◌, subst, arith, eqb, ltb, leb, append_assoc, length-append}
+use Rattle.std.proofs.Common.{◌≡◌, ◌⊎◌, inl, inr, ℕ, ◌+◌, ◌<◌, ◌≤◌, Bool, true, false, cond, ◌&&◌, List, [], ◌∷◌, ◌++◌, length, refl, sym, ap, ◌∙◌, subst, arith, eqb, ltb, leb, append_assoc, length-append}
 use Rattle.std.proofs.lemmas.Bool.{and_parts, cases_lt}
 use Rattle.std.proofs.lemmas.Bool.Decides.{nat_tests}
 use Rattle.std.specs.List.{AllByRecursion, filter}
@@ -71,7 +71,7 @@ abbrev pub Follow : ℕ → List Placed → Type 0
 Follow rid [] = Unit {0}
 Follow rid (r ∷ rs) = (r.what.rid ≡ rid_given rid r.what.kind) × Follow r.what.rid rs
 
-given_is : (kind : Kind) (rid given : ℕ) → given ≡ rid_given rid kind → cond (is_enqueue kind) given rid ≡ given
+pub given_is : (kind : Kind) (rid given : ℕ) → given ≡ rid_given rid kind → cond (is_enqueue kind) given rid ≡ given
 given_is Enqueue rid given e = refl
 given_is Dequeue rid given e = sym e
 given_is Commit rid given e = sym e
@@ -96,8 +96,7 @@ follow_from fs q rid before (r ∷ rs) b s h =
     let force : rid_before rid (before ++ r ∷ rs) r.at ≡ rid_at_end rid before =
     ap (rid_before rid (before ++ r ∷ rs)) s.0 ∙ rid_past q before (r ∷ rs) rid b ∙ rid_before-append [] (r ∷ rs) q q (stand_ascends fs q (r ∷ rs) s) (omega arith) (rid_at_end rid before) in
     let given : r.what.rid ≡ rid_given (rid_at_end rid before) r.what.kind = is_equal r.what.rid _ (and_parts _ _ h.0).0 ∙ ap (λ k. rid_given k r.what.kind) force in
-    let now : rid_at_end rid (before ++ r ∷ []) ≡ r.what.rid = rid_push rid before r ∙ given_is r.what.kind (rid_at_end rid before) r.what.rid given in
-    (
+    let now : rid_at_end rid (before ++ r ∷ []) ≡ r.what.rid = rid_push rid before r ∙ given_is r.what.kind (rid_at_end rid before) r.what.rid given in (
       given,
       subst (λ k. Follow k rs) now
           (follow_from fs r.after rid (before ++ r ∷ []) rs (before_push q r.after r before b (omega (arith, fits.0, s.2)) (omega (arith, fits.0, s.0, s.2))) s.3

@@ -20,7 +20,7 @@ use Rattle.qls_meaning.specs.History.{AllUnmarked}
 use Rattle.qls_meaning.specs.Orderly.{journal_on}
 use Rattle.qls_laws.specs.Readings.{Stand}
 use Rattle.qls_laws.specs.Areas.{IsUnmarkedAt}
-use Rattle.qls_laws.proofs.Reaches.{records_stand, stand_there}
+use Rattle.qls_laws.proofs.Reaches.{records_stand, stand_there, stand_end}
 use Rattle.qls_laws.proofs.Unmarked.{none_unmarked}
 use Rattle.qls_blocks.specs.declared.plan.FreshFile.{FreshFile}
 use Rattle.qls_blocks.specs.Batching.{length_of, laid_from, places_from, block_length, with_fillers}
@@ -41,8 +41,9 @@ use Rattle.qls_log.proofs.Appends.{those_split, same_heads, all_capacity, end_la
 use Rattle.qls_log.proofs.Appended.{sound_capacity, tail_length}
 use Rattle.qls_log.proofs.Stands.{Lies, lies, new_end}
 use Rattle.qls_log.proofs.Streams.{HaveSameHeads, stand_append, end_append}
-use Rattle.qls_laws.proofs.Claimed.{HaveEpoch}
-use Rattle.qls_log.proofs.Places.{CountFrom, reading_of_run, reading_from, FirstFits, first_again, stand_end, all_located, count_of, laid_located, later_unmarked, unmarked_again, unmarked_end}
+use Rattle.qls_laws.proofs.Claimed.{HaveEpoch, reading_of_run}
+use Rattle.qls_laws.proofs.Leftover.{reading_from}
+use Rattle.qls_log.proofs.Places.{CountFrom, FirstFits, first_again, all_located, count_of, laid_located, later_unmarked, unmarked_again, unmarked_end}
 
 -- ---- the records of a batch
 

@@ -19,3 +19,4 @@ pub mod Puts
 pub mod SoundRules
 pub mod Sound
 pub mod SoundDisk
+pub mod SoundRun

@@ -13,7 +13,8 @@ use Rattle.qls_meaning.specs.Journals.{Headed, journal, in_use, headed}
 use Rattle.qls_meaning.specs.Reading.{Placed, Read, stream, end_from, first_place, epoch_reading, located, journal_reading}
 use Rattle.qls_meaning.specs.Damage.{chain_claims, reading_claims, rid_at_end, oldest_rid}
 use Rattle.qls_meaning.specs.History.{AllUnmarked}
-use Rattle.qls_laws.proofs.Claimed.{HaveEpoch, InOrder, AllKeep, in_file, keeps_rules, rules_kept}
+use Rattle.qls_laws.proofs.Leftover.{AllBefore}
+use Rattle.qls_laws.proofs.Claimed.{HaveEpoch, InOrder, AllKeep, in_file, keeps_rules, rules_kept, reading_of_run}
 use Rattle.qls_blocks.specs.declared.plan.FreshFile.{FreshFile}
 use Rattle.qls_blocks.specs.Batching.{length_of, block_length, laid_from, last_rid, with_fillers}
 use Rattle.qls_blocks.specs.Parts.{Syncs}
@@ -34,12 +35,11 @@ use Rattle.qls_log.proofs.Appends.{all_capacity}
 use Rattle.qls_log.proofs.Appended.{sound_capacity}
 use Rattle.qls_log.proofs.Stands.{Lies, lies, new_end}
 use Rattle.qls_log.proofs.Streams.{HaveSameHeads, same_length}
-use Rattle.qls_log.proofs.Places.{reading_of_run}
 use Rattle.qls_log.proofs.News.{those_one}
 use Rattle.qls_log.proofs.Flushes.{flushed, same_seen, synced_some}
 use Rattle.qls_log.proofs.Behind.{BeginsAtFront, begins_at_front, Added, added_by, unmarked_first, those_count, those_epoch, those_own, old_size, OldPart, old_part, new_epoch, old_stands, first_is, reading_new}
 use Rattle.qls_log.proofs.Puts.{syncs_moments}
-use Rattle.qls_log.proofs.SoundRules.{chain_of, AllBefore, all_before, rid_at_end-append, laid_ascend, rid_laid, follow_filled, last_filled, laid_in_order, files_stay, files_come, keep_append}
+use Rattle.qls_log.proofs.SoundRules.{chain_of, all_before, rid_at_end-append, laid_ascend, rid_laid, follow_filled, last_filled, laid_in_order, files_stay, files_come, keep_append}
 
 -- ---- a new log
 

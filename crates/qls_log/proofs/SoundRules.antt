@@ -4,8 +4,6 @@ use Rattle.std.proofs.lemmas.Bool.Decides.{nat_tests}
 use Rattle.std.specs.List.{AllByRecursion, filter}
 use Rattle.qls_shape.specs.Claims.{claim, of_file, ◌>>◌}
 use Rattle.qls_shape.specs.declared.Version.TheVariants.{Two}
-use Rattle.qls_record.specs.declared.Kind.{Kind}
-use Rattle.qls_record.specs.declared.Kind.TheVariants.{Enqueue, Dequeue, Commit, Abort, Filler}
 use Rattle.qls_record.specs.Record.{Record, record_length, rid_given, is_enqueue}
 use Rattle.qls_filehdr.specs.declared.FileHeader.{FileHeader}
 use Rattle.qls_filehdr.specs.declared.Rule.TheVariants as rule
@@ -15,6 +13,9 @@ use Rattle.qls_meaning.specs.Damage.{rid_before, rid_at_end, first_in, next_clai
 use Rattle.qls_laws.specs.Readings.{Stand}
 use Rattle.qls_laws.proofs.Ends.{record_fits}
 use Rattle.qls_laws.proofs.Rules.{Ascends, ats, rid_before-append, first_in-append, end_from-append, filter-append, All-filter}
+use Rattle.qls_laws.proofs.Reaches.{stand_end}
+use Rattle.qls_laws.proofs.Leftover.{AllBefore, before_later, first_past, ats_append, rid_past, none_in}
+use Rattle.qls_laws.proofs.Rising.{given_is}
 use Rattle.qls_laws.proofs.Claimed.{InOrder, in_file, KeepsRules, AllKeep, ok_next}
 use Rattle.qls_blocks.specs.declared.plan.FreshFile.{FreshFile}
 use Rattle.qls_blocks.specs.Batching.{filler_count, filler_of, last_rid, with_fillers, laid_from}
@@ -28,7 +29,6 @@ use Rattle.qls_log.specs.Standing.{AreThoseFiles}
 use Rattle.qls_log.specs.Appending.{FollowRids}
 use Rattle.qls_log.proofs.Fits.{rid_behind, rid_of_some}
 use Rattle.qls_log.proofs.Streams.{HaveSameHeads}
-use Rattle.qls_log.proofs.Places.{stand_end}
 
 less : (m n : ℕ) → m < n → ltb m n ≡ true
 less m n h = grind (arith, nat_tests)
@@ -88,10 +88,6 @@ chain_of cap o n newest (h ∷ k ∷ hs) (f ∷ g ∷ fs) m own t =
 
 -- ---- rids
 
--- each of them begins before this place
-abbrev pub AllBefore : ℕ → List Placed → Type 0
-AllBefore q rs = AllByRecursion (λ r. r.at < q) rs
-
 pub all_before : (fs : List Headed) (p q : ℕ) (rs : List Placed) → Stand fs p rs → end_from p rs ≤ q → AllBefore q rs
 all_before fs p q [] s l = tt
 all_before fs p q (r ∷ rs) s l =
@@ -99,33 +95,9 @@ all_before fs p q (r ∷ rs) s l =
     let later = stand_end fs r.after rs s.3 in
     (omega (arith, fits.0, later, l, s.0, s.2), all_before fs r.after q rs s.3 l)
 
-pub before_later : (p q : ℕ) (rs : List Placed) → p ≤ q → AllBefore p rs → AllBefore q rs
-before_later p q [] h b = tt
-before_later p q (r ∷ rs) h b = (omega (arith, h, b.0), before_later p q rs h b.1)
-
--- past all of them the rid in force is the one at the end
-pub rid_past : (q : ℕ) (rs more : List Placed) (rid : ℕ) → AllBefore q rs → rid_before rid (rs ++ more) q ≡ rid_before (rid_at_end rid rs) more q
-rid_past q [] more rid b = refl
-rid_past q (r ∷ rs) more rid b =
-    ap (λ t. rid_before (cond (is_enqueue r.what.kind && t) r.what.rid rid) (rs ++ more) q) (less r.at q b.0)
-    ∙ ap (λ t. rid_before (cond t r.what.rid rid) (rs ++ more) q) (and_true (is_enqueue r.what.kind))
-    ∙ rid_past q rs more (cond (is_enqueue r.what.kind) r.what.rid rid) b.1
-  where
-    and_true : (t : Bool) → (t && true) ≡ t
-    and_true true = refl
-    and_true false = refl
-
 pub rid_at_end-append : (rid : ℕ) (xs ys : List Placed) → rid_at_end rid (xs ++ ys) ≡ rid_at_end (rid_at_end rid xs) ys
 rid_at_end-append rid [] ys = refl
 rid_at_end-append rid (x ∷ xs) ys = rid_at_end-append (cond (is_enqueue x.what.kind) x.what.rid rid) xs ys
-
--- a record's rid is in force behind it
-given_is : (kind : Kind) (rid given : ℕ) → given ≡ rid_given rid kind → cond (is_enqueue kind) given rid ≡ given
-given_is Enqueue rid given e = refl
-given_is Dequeue rid given e = sym e
-given_is Commit rid given e = sym e
-given_is Abort rid given e = sym e
-given_is Filler rid given e = sym e
 
 pub laid_ascend : (p : ℕ) (rs : List Record) → Ascends p (laid_from p rs)
 laid_ascend p [] = tt
@@ -235,21 +207,6 @@ module _ (begin limit rid : ℕ) (xs ys : List Placed) (ends : end_from begin xs
 
 -- ---- the files that were taken
 
-none_there : (start size q : ℕ) (xs : List Placed) → AllBefore q xs → q ≤ start → filter (in_file start size) xs ≡ []
-none_there start size q [] b l = refl
-none_there start size q (x ∷ xs) b l =
-    ap (λ t. cond (t && ltb x.at (start + size)) (x ∷ filter (in_file start size) xs) (filter (in_file start size) xs)) (not_most start x.at (omega (arith, b.0, l))) ∙ none_there start size q xs b.1 l
-
--- places before a file say nothing of its first one
-first_past : (start size q : ℕ) (xs : List Placed) (ps : List ℕ) → AllBefore q xs → q ≤ start → first_in start size (ats xs ++ ps) ≡ first_in start size ps
-first_past start size q [] ps b l = refl
-first_past start size q (x ∷ xs) ps b l =
-    ap (λ t. cond t (first_in start size (ats xs ++ ps)) (cond (ltb x.at (start + size)) (4096 + (x.at - start)) 0)) (less x.at start (omega (arith, b.0, l))) ∙ first_past start size q xs ps b.1 l
-
-ats_append : (xs ys : List Placed) (ps : List ℕ) → ats (xs ++ ys) ++ ps ≡ ats xs ++ (ats ys ++ ps)
-ats_append [] ys ps = refl
-ats_append (x ∷ xs) ys ps = ap (λ (qs : List ℕ). x.at ∷ qs) (ats_append xs ys ps)
-
 module _ (begin k used rid at_end : ℕ) (xs : List Placed) (ws : List Record) (ends : end_from begin xs ≡ k + used) (before : AllBefore (k + used) xs) (is : rid_at_end rid xs ≡ at_end)
     (batch : AllByRecursion (InOrder rid (xs ++ laid_from (k + used) ws)) (laid_from (k + used) ws)) where
   abbrev ys : List Placed
@@ -269,11 +226,11 @@ module _ (begin k used rid at_end : ℕ) (xs : List Placed) (ws : List Record) (
   file_comes cap s size h e late first rid_of = record {
     first = λ l m.
         first ∙ sym (first_in-shifted k s cap used ws) ∙ ap (first_in (k + s) cap) (sym (places-laid (k + used) ws)) ∙ ap (λ q. first_in (k + s) cap (ats ys ++ q ∷ [])) (sym till_is)
-        ∙ sym (first_past (k + s) cap (k + used) xs (ats ys ++ till ∷ []) before late) ∙ ap (first_in (k + s) cap) (sym (ats_append xs ys (till ∷ []))) ∙ ap (λ n. first_in (k + s) n (ats whole ++ till ∷ [])) (sym e);
+        ∙ sym (first_past (k + s) cap xs (ats ys ++ till ∷ []) (before_later (k + used) (k + s) xs late before)) ∙ ap (first_in (k + s) cap) (sym (ats_append xs ys (till ∷ []))) ∙ ap (λ n. first_in (k + s) n (ats whole ++ till ∷ [])) (sym e);
     rid_is = λ l m.
         rid_of ∙ sym (rid_before-shifted k s at_end used ws) ∙ ap (λ n. rid_before n ys (k + s)) (sym is) ∙ sym (rid_past (k + s) xs ys rid (before_later (k + used) (k + s) xs late before));
     order =
-        subst (AllByRecursion (InOrder rid whole)) (sym (filter-append (in_file (k + s) size) xs ys ∙ ap (λ (zs : List Placed). zs ++ filter (in_file (k + s) size) ys) (none_there (k + s) size (k + used) xs before late)))
+        subst (AllByRecursion (InOrder rid whole)) (sym (filter-append (in_file (k + s) size) xs ys ∙ ap (λ (zs : List Placed). zs ++ filter (in_file (k + s) size) ys) (none_in (k + s) size xs (before_later (k + used) (k + s) xs late before))))
         (All-filter (InOrder rid whole) (in_file (k + s) size) ys batch);
   }
 
