@@ -1,3 +1,5 @@
 pub mod Readings
 pub mod Histories
 pub mod Areas
+pub mod Undamaged
+pub mod Returns

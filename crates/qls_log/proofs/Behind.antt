@@ -20,7 +20,7 @@ use Rattle.qls_meaning.specs.History.{AllUnmarked}
 use Rattle.qls_meaning.specs.Orderly.{journal_on}
 use Rattle.qls_laws.specs.Readings.{Stand}
 use Rattle.qls_laws.specs.Areas.{IsUnmarkedAt}
-use Rattle.qls_laws.proofs.Reaches.{records_stand, stand_there}
+use Rattle.qls_laws.proofs.Reaches.{records_stand, stand_there, stand_end}
 use Rattle.qls_laws.proofs.Unmarked.{none_unmarked}
 use Rattle.qls_blocks.specs.declared.plan.FreshFile.{FreshFile}
 use Rattle.qls_blocks.specs.Batching.{length_of, laid_from, places_from, block_length, with_fillers}
@@ -41,7 +41,9 @@ use Rattle.qls_log.proofs.Appends.{those_split, same_heads, all_capacity, end_la
 use Rattle.qls_log.proofs.Appended.{sound_capacity, tail_length}
 use Rattle.qls_log.proofs.Stands.{Lies, lies, new_end}
 use Rattle.qls_log.proofs.Streams.{HaveSameHeads, stand_append, end_append}
-use Rattle.qls_log.proofs.Places.{HaveEpoch, CountFrom, reading_of_run, reading_from, FirstFits, first_again, stand_end, all_located, count_of, laid_located, later_unmarked, unmarked_again, unmarked_end}
+use Rattle.qls_laws.proofs.Claimed.{HaveEpoch, reading_of_run}
+use Rattle.qls_laws.proofs.Leftover.{reading_from}
+use Rattle.qls_log.proofs.Places.{CountFrom, FirstFits, first_again, all_located, count_of, laid_located, later_unmarked, unmarked_again, unmarked_end}
 
 -- ---- the records of a batch
 
@@ -57,7 +59,7 @@ batch_whats l rs = what_read (capacity_in l.opening) l.newest (laid_from l.used 
 
 -- ---- the first place of the file behind a full one
 
-abbrev BeginsAtFront : List HeadedFile → Type 0
+abbrev pub BeginsAtFront : List HeadedFile → Type 0
 BeginsAtFront [] = Unit {0}
 BeginsAtFront (h ∷ hs) = h.header.first ≡ 4096
 
@@ -85,7 +87,7 @@ headed_front o n [] (h ∷ taken) t e = absurd t
 headed_front o n (f ∷ fs) [] t e = tt
 headed_front o n (f ∷ fs) (h ∷ taken) t e = ap (λ (x : FileHeader). x.first) t.0 ∙ e
 
-begins_at_front : (l : LogState) (rs : List Record) (fs : List FreshFile) (taken : List HeadedFile) → 0 < capacity_in l.opening → AreHeaded l.opening l.newest fs taken
+pub begins_at_front : (l : LogState) (rs : List Record) (fs : List FreshFile) (taken : List HeadedFile) → 0 < capacity_in l.opening → AreHeaded l.opening l.newest fs taken
     → fs ≡ (plan_of rs l.used (capacity_in l.opening) l.rid).fresh → l.used ≡ capacity_in l.opening → BeginsAtFront taken
 begins_at_front l rs fs taken some t is full =
     headed_front l.opening l.newest fs taken t
@@ -108,12 +110,12 @@ parts_moments cap (id ∷ own) at bytes c =
     (one.now ∷ rest.0, rest.1 ∙ append_assoc c.moments (one.now ∷ []) rest.0)
 
 -- the moments of the call: those of the files that were taken, and those of the writes
-record Added (a b : Content) (since : List Moment) : Type 0 where
-  writes : List Moment
-  all : b.moments ≡ a.moments ++ (since ++ writes)
-  added : moments_since a b ≡ since ++ writes
+pub record Added (a b : Content) (since : List Moment) : Type 0 where
+  pub writes : List Moment
+  pub all : b.moments ≡ a.moments ++ (since ++ writes)
+  pub added : moments_since a b ≡ since ++ writes
 
-added_by : (cap : ℕ) (own : List ℕ) (at : ℕ) (bytes : List ℕ) (a mid b : Content) (since : List Moment) → mid.moments ≡ a.moments ++ since → b ≡ with_parts cap own at bytes mid → Added a b since
+pub added_by : (cap : ℕ) (own : List ℕ) (at : ℕ) (bytes : List ℕ) (a mid b : Content) (since : List Moment) → mid.moments ≡ a.moments ++ since → b ≡ with_parts cap own at bytes mid → Added a b since
 added_by cap own at bytes a mid b since e w =
     let more = parts_moments cap own at bytes mid in
     let all : b.moments ≡ a.moments ++ (since ++ more.0) =
@@ -143,13 +145,13 @@ last_mid cap used now fs [] (c ∷ cs) t k u h = absurd t
 last_mid cap used now fs (h ∷ taken) [] t k u low = absurd t
 last_mid cap used now fs (h ∷ taken) (c ∷ cs) t k u low = later_unmarked 0 now (fs ++ c ∷ cs) (omega arith) (last_came fs c cs u)
 
-those_count : (cap : ℕ) (hs : List HeadedFile) (fs : List Headed) → AreThoseFiles cap hs fs → length fs ≡ length hs
+pub those_count : (cap : ℕ) (hs : List HeadedFile) (fs : List Headed) → AreThoseFiles cap hs fs → length fs ≡ length hs
 those_count cap [] [] t = refl
 those_count cap [] (f ∷ fs) t = absurd t
 those_count cap (h ∷ hs) [] t = absurd t
 those_count cap (h ∷ hs) (f ∷ fs) t = ap suc (those_count cap hs fs t.1)
 
-those_epoch : (cap : ℕ) (o : Opening) (hs : List HeadedFile) (fs : List Headed) → AreThoseFiles cap hs fs → AllByRecursion (IsOfOpening o) hs → HaveEpoch o.epoch fs
+pub those_epoch : (cap : ℕ) (o : Opening) (hs : List HeadedFile) (fs : List Headed) → AreThoseFiles cap hs fs → AllByRecursion (IsOfOpening o) hs → HaveEpoch o.epoch fs
 those_epoch cap o [] [] t own = tt
 those_epoch cap o [] (f ∷ fs) t own = absurd t
 those_epoch cap o (h ∷ hs) [] t own = absurd t
@@ -228,7 +230,7 @@ module _ (l new : LogState) (sound : IsSound l) (again : IsSound new) (left : Po
   those_new : AreThoseFiles cap (l.files ++ taken) new_files
   those_new = lies.laid.files.files
 
-  those_own : AreThoseFiles cap new.files new_files
+  pub those_own : AreThoseFiles cap new.files new_files
   those_own = subst (λ (hs : List HeadedFile). AreThoseFiles cap hs new_files) (sym files) those_new
 
   own_count : length new.files ≡ length l.files + length taken
@@ -240,7 +242,7 @@ module _ (l new : LogState) (sound : IsSound l) (again : IsSound new) (left : Po
   turned : (c k : ℕ) → c * k ≡ k * c
   turned c k = grind arith
 
-  old_size : length (stream old_files) ≡ (length l.files - 1) * cap + cap
+  pub old_size : length (stream old_files) ≡ (length l.files - 1) * cap + cap
   old_size =
       those_length cap l.files old_files those_old ∙ turned cap (length l.files) ∙ ap (λ n. n * cap) (omega (arith, sound.some)) ∙ next (length l.files - 1) cap
     where
@@ -248,14 +250,14 @@ module _ (l new : LogState) (sound : IsSound l) (again : IsSound new) (left : Po
       next k c = grind arith
 
   -- the files before, under the same headers
-  record OldPart : Type 0 where
-    gs : List Headed
-    more : List Headed
-    is : new_files ≡ gs ++ more
-    heads : HaveSameHeads old_files gs
-    those_more : AreThoseFiles cap taken more
+  pub record OldPart : Type 0 where
+    pub gs : List Headed
+    pub more : List Headed
+    pub is : new_files ≡ gs ++ more
+    pub heads : HaveSameHeads old_files gs
+    pub those_more : AreThoseFiles cap taken more
 
-  old_part : OldPart
+  pub old_part : OldPart
   old_part =
       let s = those_split cap l.files taken new_files those_new in
       record { gs = s.0; more = s.1; is = s.2; heads = same_heads cap l.files old_files s.0 those_old s.3; those_more = s.4 }
@@ -321,7 +323,7 @@ module _ (l new : LogState) (sound : IsSound l) (again : IsSound new) (left : Po
       (omega (arith, new_count, again.some)) (omega (arith, blocks)) within (omega (arith, whole_blocks)) k in
       none_unmarked new_files (limit + length_of ws) (subst (IsUnmarkedAt new_files) (ap (λ n. cap * (n - 1) + new.used) new_count ∙ sym end_new ∙ sym end_is) unmarked)
 
-  new_epoch : HaveEpoch l.opening.epoch new_files
+  pub new_epoch : HaveEpoch l.opening.epoch new_files
   new_epoch = subst (λ (o : Opening). HaveEpoch o.epoch new_files) opening (those_epoch cap new.opening new.files new_files those_own again.own)
 
   module _ (reads : List Read) (r : IsRead l reads a.now.disk) (came : LastUnmarked lies.got.came) where
@@ -331,7 +333,7 @@ module _ (l new : LogState) (sound : IsSound l) (again : IsSound new) (left : Po
     abbrev batch : List Placed
     batch = laid_from limit ws
 
-    old_stands : Stand old_files (first_place old_files) old
+    pub old_stands : Stand old_files (first_place old_files) old
     old_stands = records_stand old_files (length (stream old_files) / 128) (first_place old_files)
 
     all_stand : Stand new_files (first_place old_files) (old ++ batch)
@@ -339,7 +341,7 @@ module _ (l new : LogState) (sound : IsSound l) (again : IsSound new) (left : Po
         stand_append new_files (first_place old_files) old batch (stand_there limit old_files new_files lies.agrees (first_place old_files) old old_stands (omega (arith, r.ends)))
         (subst (λ p. Stand new_files p batch) (sym r.ends) lies.stands)
 
-    first_is : first_place new_files ≡ first_place old_files
+    pub first_is : first_place new_files ≡ first_place old_files
     first_is =
         ap first_place old_part.is
         ∙ first_again cap old_files old_part.gs old_part.more (all_capacity cap l.files old_files those_old) (those_first cap l.opening l.files old_files those_old sound.legal sound.own) old_part.heads none_before
@@ -366,7 +368,7 @@ module _ (l new : LogState) (sound : IsSound l) (again : IsSound new) (left : Po
     behind_new : LastIsUnmarked new.used new_files
     behind_new = unmarked_new came r.behind
 
-    reading_new : epoch_reading true new_files ≡ old ++ batch
+    pub reading_new : epoch_reading true new_files ≡ old ++ batch
     reading_new =
         reading_from new_files (old ++ batch) (subst (λ p. Stand new_files p (old ++ batch)) (sym first_is) all_stand) (ap (record_in new_files) end_all ∙ ends_none behind_new)
 

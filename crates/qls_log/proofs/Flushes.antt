@@ -59,11 +59,11 @@ err_synced : (ids : List ℕ) (k : ℕ) (e : SiteError) (a b : Content) → Lead
 err_synced ids k Failed a b h = record { made = take k ids; disk = ap (λ (c : Content). c.now.disk) h ∙ disk_of (take k ids) a; answered = ap (λ (c : Content). c.now.answered) h ∙ answered_of (take k ids) a }
 err_synced ids k Memory a b h = record { made = take k ids; disk = ap (λ (c : Content). c.now.disk) h ∙ disk_of (take k ids) a; answered = ap (λ (c : Content). c.now.answered) h ∙ answered_of (take k ids) a }
 
-synced_some : (ids : List ℕ) (r : Result (Unit {0}) SiteError) (a b : Content) → Syncs ids r a b → SyncedUpTo ids a b
+pub synced_some : (ids : List ℕ) (r : Result (Unit {0}) SiteError) (a b : Content) → Syncs ids r a b → SyncedUpTo ids a b
 synced_some ids (Ok x) a b h = record { made = ids; disk = ap (λ (c : Content). c.now.disk) h ∙ disk_of ids a; answered = ap (λ (c : Content). c.now.answered) h ∙ answered_of ids a }
 synced_some ids (Err e) a b h = err_synced ids h.0 e a b h.2
 
-same_seen : (ids : List ℕ) (a b : Content) → SyncedUpTo ids a b → SeesTheSame a b
+pub same_seen : (ids : List ℕ) (a b : Content) → SyncedUpTo ids a b → SeesTheSame a b
 same_seen ids a b s = record { files = ap full s.disk ∙ full-syncs s.made a.now.disk; answered = s.answered }
 
 pub told_same : (ids : List ℕ) (r : Result (Unit {0}) SiteError) (a b : Option Content) → Tells (Syncs ids r) a b → Tells SeesTheSame a b
@@ -243,7 +243,7 @@ all_but ids (h ∷ hs) d k = (λ e. k.0, all_but ids hs d k.1)
 
 -- ---- the log
 
-abbrev flushed : LogState → LogState
+abbrev pub flushed : LogState → LogState
 flushed l = record l { unsynced = [] }
 
 there_synced : (l : LogState) (d : Disk) → LogThere l d → LogThere (flushed l) (synced_disk l.unsynced d)

@@ -22,3 +22,7 @@ pub mod Going
 pub mod Quiets
 pub mod OwnWrites
 pub mod AppendSteps
+pub mod SoundRules
+pub mod Sound
+pub mod SoundDisk
+pub mod SoundRun

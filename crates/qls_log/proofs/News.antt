@@ -46,7 +46,7 @@ reads_none : (f : Headed) → f.header.first ≡ 4096 → f.header.serial < 2 ^ 
 reads_none f first fits u room =
     reading_ends true (f ∷ []) [] tt (drop (begin_place true (f ∷ [])) (stream (f ∷ [])), refl) (subst (IsUnmarkedAt (f ∷ [])) (sym (begins_there f first)) (unmarked_start f fits u room))
 
-those_one : (cap : ℕ) (h : HeadedFile) (fs : List Headed) → AreThoseFiles cap (h ∷ []) fs → (f : Headed) × (fs ≡ f ∷ []) × IsThatFile cap h f
+pub those_one : (cap : ℕ) (h : HeadedFile) (fs : List Headed) → AreThoseFiles cap (h ∷ []) fs → (f : Headed) × (fs ≡ f ∷ []) × IsThatFile cap h f
 those_one cap h [] t = absurd t
 those_one cap h (f ∷ []) t = (f, refl, t.0)
 those_one cap h (f ∷ g ∷ fs) t = absurd t.1

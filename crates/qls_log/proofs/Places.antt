@@ -1,5 +1,5 @@
 -- Where records lie in the files of one epoch, and where their reading ends.
-use Rattle.std.proofs.Common.{◌≡◌, ◌⊎◌, inl, inr, ℕ, suc, ◌+◌, ◌-◌, ◌*◌, ◌/◌, ◌%◌, ◌^◌, ◌<◌, ◌≤◌, Bool, true, false, cond, ◌==◌, eqb, ltb, List, [], ◌∷◌, ◌++◌, map, length, drop, Option, Some, None, refl, sym, ap, ap₂, ◌∙◌, subst, arith, length-append, append-nil, T, ltb→lt}
+use Rattle.std.proofs.Common.{◌≡◌, ◌⊎◌, inl, inr, ℕ, suc, ◌+◌, ◌-◌, ◌*◌, ◌/◌, ◌%◌, ◌^◌, ◌<◌, ◌≤◌, Bool, true, false, cond, eqb, ltb, List, [], ◌∷◌, ◌++◌, map, length, drop, Option, Some, None, refl, sym, ap, ap₂, ◌∙◌, subst, arith, length-append, append-nil, T, ltb→lt}
 use Rattle.std.proofs.Math.Nat.{div-eq_of_lt, mod-eq_of_lt, mod-eq-sub-mod}
 use Rattle.std.proofs.Math.Seq.{drop-drop, drop-append_seam}
 use Rattle.std.specs.List.{AllByRecursion}
@@ -8,45 +8,23 @@ use Rattle.qls_shape.specs.Fields.{number_at}
 use Rattle.qls_shape.specs.declared.Version.TheVariants.{Two}
 use Rattle.qls_record.specs.Record.{Record, record_length}
 use Rattle.qls_record.proofs.RecordLength.{record_length_least}
-use Rattle.qls_filehdr.specs.declared.JournalKind.{JournalKind}
 use Rattle.qls_filehdr.specs.declared.FileHeader.{FileHeader}
-use Rattle.qls_meaning.specs.Journals.{Headed, epochs, onto_epoch}
-use Rattle.qls_meaning.specs.Reading.{Holder, Placed, Read, holder, stream, record_in, end_from, first_place, epoch_reading, number_of, place_of, located, reads_of, journal_reading}
+use Rattle.qls_meaning.specs.Journals.{Headed}
+use Rattle.qls_meaning.specs.Reading.{Holder, Placed, Read, holder, stream, first_place, number_of, place_of, located}
 use Rattle.qls_laws.specs.Readings.{Stand}
 use Rattle.qls_laws.specs.Areas.{IsUnmarkedFrom, IsUnmarkedAt, UnmarkedFor}
 use Rattle.qls_laws.proofs.Ends.{record_fits}
-use Rattle.qls_laws.proofs.Unique.{epoch_only_reading}
 use Rattle.qls_laws.proofs.Unmarked.{held_unmarked}
 use Rattle.qls_laws.proofs.CleanAreas.{number_past}
 use Rattle.qls_blocks.specs.Batching.{length_of, laid_from}
 use Rattle.qls_blocks.specs.Laws.{HaveCapacity}
 use Rattle.qls_blocks.proofs.Stream.{holder-behind}
 use Rattle.qls_pool.specs.Files.{HeadedFile}
-use Rattle.qls_pool.proofs.Disks.{eqb_own, eqb_is}
+use Rattle.qls_pool.proofs.Disks.{eqb_is}
 use Rattle.qls_log.specs.Logs.{NumberedFrom}
 use Rattle.qls_log.specs.Standing.{AreThoseFiles, LastIsUnmarked}
 use Rattle.qls_log.specs.Reads.{read_in}
-use Rattle.qls_log.proofs.Streams.{HaveSameHeads, same_length, holder_front, is_reading}
-
--- ---- one epoch
-
-abbrev pub HaveEpoch : ℕ → List Headed → Type 0
-HaveEpoch e fs = AllByRecursion (λ f. f.header.epoch ≡ e) fs
-
-one_run : (e : ℕ) (f : Headed) (fs : List Headed) → HaveEpoch e (f ∷ fs) → epochs (f ∷ fs) ≡ (f ∷ fs) ∷ []
-one_run e f [] h = refl
-one_run e f (g ∷ fs) h =
-    ap (onto_epoch f) (one_run e g fs h.1)
-    ∙ ap (λ b. cond b ((f ∷ g ∷ fs) ∷ []) ((f ∷ []) ∷ (g ∷ fs) ∷ [])) (ap (λ n. n == g.header.epoch) (h.0 ∙ sym h.1.0) ∙ eqb_own g.header.epoch)
-
-pub reading_of_run : (e : ℕ) (kind : JournalKind) (name : List ℕ) (fs : List Headed) → HaveEpoch e fs → 0 < length fs
-    → journal_reading (record { kind = kind; name = name; files = fs }) ≡ map (located fs) (epoch_reading true fs)
-reading_of_run e kind name [] h some = absurd (omega arith)
-reading_of_run e kind name (f ∷ fs) h some = ap (reads_of true) (one_run e f fs h) ∙ append-nil (map (located (f ∷ fs)) (epoch_reading true (f ∷ fs)))
-
--- what stands from the first place up to a place where nothing does is the reading
-pub reading_from : (fs : List Headed) (rs : List Placed) → Stand fs (first_place fs) rs → record_in fs (end_from (first_place fs) rs) ≡ None → epoch_reading true fs ≡ rs
-reading_from fs rs h none = sym (epoch_only_reading true fs rs (is_reading fs (first_place fs) rs h none))
+use Rattle.qls_log.proofs.Streams.{HaveSameHeads, same_length, holder_front}
 
 -- ---- the same places, with other bytes and more files
 
@@ -112,11 +90,6 @@ first_again cap fs gs more have fit h next = by (first_or_none cap fs have fit)
     by : (first_place fs < length (stream fs)) ⊎ NoFirst fs → first_place (gs ++ more) ≡ first_place fs
     by (inl l) = first_front fs gs more h l
     by (inr n) = n.next gs more h ∙ omega (arith, n.at_end, next (omega (arith, n.at_end)))
-
--- what is read ends no sooner than it begins
-pub stand_end : (fs : List Headed) (p : ℕ) (rs : List Placed) → Stand fs p rs → p ≤ end_from p rs
-stand_end fs p [] h = omega arith
-stand_end fs p (r ∷ rs) h = let later = stand_end fs r.after rs h.3 in omega (arith, later, h.2)
 
 number_step : (f g : Headed) (p : ℕ) (x y : Option Holder) → g.header ≡ f.header → number_of y ≡ number_of x → (b : Bool)
     → number_of (cond b (Some (record { file = g; within = p })) y) ≡ number_of (cond b (Some (record { file = f; within = p })) x)

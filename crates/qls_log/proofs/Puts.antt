@@ -11,7 +11,7 @@ use Rattle.qls_log.specs.Appending.{SyncsAll}
 use Rattle.qls_log.specs.Reads.{IsRead, ReadsOn, batch_reads}
 use Rattle.qls_log.proofs.Behind.{unmarked_first}
 
-syncs_moments : (ids : List ℕ) (c : Content) → (xs : List Moment) × ((with_syncs ids c).moments ≡ c.moments ++ xs)
+pub syncs_moments : (ids : List ℕ) (c : Content) → (xs : List Moment) × ((with_syncs ids c).moments ≡ c.moments ++ xs)
 syncs_moments [] c = ([], sym (append-nil c.moments))
 syncs_moments (id ∷ ids) c =
     let one : Content = with_sync id c in

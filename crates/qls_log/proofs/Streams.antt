@@ -8,10 +8,9 @@ use Rattle.qls_record.proofs.RoundTrip.{record_at-spelling}
 use Rattle.qls_record.proofs.RecordLength.{length-spelling}
 use Rattle.qls_site.specs.Disk.{written}
 use Rattle.qls_meaning.specs.Journals.{Headed}
-use Rattle.qls_meaning.specs.Reading.{Holder, Placed, holder, stream, record_in, held_record, length_in, held_length, held_spelling, spelled_from, placed_from, end_from}
-use Rattle.qls_laws.specs.Readings.{Stand, AgreeUpTo, IsReading, LegalFrom, held_legal}
+use Rattle.qls_meaning.specs.Reading.{Holder, Placed, holder, stream, held_record, length_in, held_length, held_spelling, spelled_from, placed_from, end_from}
+use Rattle.qls_laws.specs.Readings.{Stand, AgreeUpTo, LegalFrom, held_legal}
 use Rattle.qls_laws.proofs.Reaches.{stand_there}
-use Rattle.qls_laws.proofs.Unique.{spelled_where_read, read_where_spelled}
 use Rattle.qls_blocks.proofs.Stream.{IsHeld}
 
 -- ---- bytes laid over a list from a place on
@@ -122,12 +121,3 @@ end_append p (x ∷ xs) ys = end_append x.after xs ys
 pub stand_more : (limit : ℕ) (fs gs : List Headed) (kept more : List Placed) → AgreeUpTo limit fs gs → Stand fs 0 kept → end_from 0 kept ≡ limit → Stand gs limit more → Stand gs 0 (kept ++ more)
 stand_more limit fs gs kept more agrees stand ends batch =
     stand_append gs 0 kept more (stand_there limit fs gs agrees 0 kept stand (omega (arith, ends))) (subst (λ p. Stand gs p more) (sym ends) batch)
-
--- ---- the reading
-
-none_spelled : (fs : List Headed) (p : ℕ) → record_in fs p ≡ None → (r : Record) → Rattle.qls_laws.specs.Readings.IsSpelledAt fs p r → ⊥
-none_spelled fs p none r s = let e = read_where_spelled fs p r s in absurd (cc)
-
-pub is_reading : (fs : List Headed) (p : ℕ) (rs : List Placed) → Stand fs p rs → record_in fs (end_from p rs) ≡ None → IsReading fs p rs
-is_reading fs p [] h none = none_spelled fs p none
-is_reading fs p (r ∷ rs) h none = (h.0, spelled_where_read fs p r.what h.1, h.2, is_reading fs r.after rs h.3 none)

@@ -7,3 +7,4 @@ pub mod Standing
 pub mod Steps
 pub mod Appending
 pub mod Reads
+pub mod Soundness

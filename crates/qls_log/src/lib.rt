@@ -5,6 +5,7 @@
 #![tactic(auto)]
 
 mod fault;
+pub mod laws;
 mod log;
 mod opening;
 mod spot;

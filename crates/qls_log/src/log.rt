@@ -16,6 +16,7 @@ ghost use Rattle.qls_log.specs.Steps.{IsLogStep, GoesBy, MeetsEndWith, is_exact}
 ghost use Rattle.qls_log.specs.Standing.{LogThere, StandsWith, IsUnmarkedBehind, files_on};
 ghost use Rattle.qls_meaning.specs.Reading.{Read};
 ghost use Rattle.qls_log.specs.Reads.{IsRead, BeginsReading, ReadsOn};
+ghost use Rattle.qls_log.specs.Soundness.{IsUndamaged, BeginsUndamaged, StaysUndamaged};
 ghost use Rattle.qls_log.specs.Appending.{IsNew, FollowRids, HasAppended, TakesAndWrites, ReadsNone, StandsBehind, StandsStill, LeavesOthers, IsQuietBut, SyncsAll, SeesTheSame, ReadsInImages};
 
 use crate::fault::LogError;
@@ -61,8 +62,8 @@ impl Model for Log {
 
 impl Log {
     /// Makes a new journal of this kind and name, whose files belong to the pool `home`: it takes one file, with number
-    /// and epoch 1, and no record is read of it where every file that came into use was unmarked. A queue's name is within
-    /// its limits, and the list's is empty.
+    /// and epoch 1. Where every file that came into use was unmarked, no record is read of it, and its journal breaks no
+    /// damage rule. A queue's name is within its limits, and the list's is empty.
     ///
     /// Where told, the site has no file in use of that kind and name, and the pool is the site's, with no file out.
     /// After an error the site and the pool stand as the calls up to it left them.
@@ -85,9 +86,10 @@ impl Log {
         ensures pool { IfOk result (λ _. IfSome (S.told site.new) (OnDisk (IsWholePool pool.new))) }
         ensures reading { IfOk result (λ log. Tells (ReadsNone log) (S.told site.old) (S.told site.new)) }
         ensures stands { IfOk result (λ log. IfSome (S.told site.new) (OnDisk (StandsWith log []))) }
-        ensures sound { IfOk result IsSound }
+        ensures legal { IfOk result IsSound }
         ensures limit { pool.old.greatest < 2 ^ 62 → pool.new.greatest < 2 ^ 62 }
         ensures begins { IfOk result (λ log. Tells (BeginsReading log) (S.told site.old) (S.told site.new)) }
+        ensures sound { IfOk result (λ log. Tells (BeginsUndamaged log) (S.told site.old) (S.told site.new)) }
         ensures others { IfOk result (λ log. Tells (LeavesOthers log.files) (S.told site.old) (S.told site.new)) }
         ensures spent { result ≡ Err LogError.Spent → IsSpent home pool.new }
         ensures at_end { IsSpent home pool.old → (result ≡ Err LogError.Spent) ⊎ (result ≡ Err LogError.Memory) }
@@ -125,8 +127,8 @@ impl Log {
 
     /// Appends a batch: all files that it needs are taken first, and then each touched file gets one write, in file
     /// order. It answers where each record lies, fillers left out. It is pending until the next [`Log::flush`]. What is
-    /// read of the journal then is what was read before, and then the batch with its fillers, where every file that came
-    /// into use was unmarked.
+    /// read of the journal then is what was read before, and then the batch with its fillers, and it breaks no damage rule
+    /// if it broke none before, where every file that came into use was unmarked.
     ///
     /// The batch has a record; its rids follow from the log's and are below 2^62; every earlier batch is flushed; the log
     /// isn't ended. Where told, the site has the journal as the log's last call left it, and the pool is the site's, with
@@ -149,10 +151,11 @@ impl Log {
         ensures spots { IfOk result (λ spots. spots ≡ map (spot_of (capacity_in self.old.opening) self.old.newest) (laid_from self.old.used batch.now)) }
         ensures there { IfOk result (λ _. IfSome (S.told site.new) (OnDisk (LogThere self.new))) }
         ensures pool { IfOk result (λ _. IfSome (S.told site.new) (OnDisk (IsPoolOf pool.new []))) }
-        ensures sound { IfOk result (λ _. IsSound self.new) }
+        ensures legal { IfOk result (λ _. IsSound self.new) }
         ensures limit { pool.old.greatest < 2 ^ 62 → pool.new.greatest < 2 ^ 62 }
         ensures stands { IfOk result (λ _. Tells (StandsBehind batch.now self.old self.new) (S.told site.old) (S.told site.new)) }
         ensures reading { IfOk result (λ _. Tells (ReadsOn batch.now self.old self.new) (S.told site.old) (S.told site.new)) }
+        ensures sound { IfOk result (λ _. Tells (StaysUndamaged self.old self.new) (S.told site.old) (S.told site.new)) }
         ensures others { IfOk result (λ _. Tells (LeavesOthers self.new.files) (S.told site.old) (S.told site.new)) }
         ensures spent { result ≡ Err LogError.Spent → MeetsEnd self.old.opening self.old.newest (length (plan_of batch.now self.old.used (capacity_in self.old.opening) self.old.rid).fresh) pool.new }
         ensures at_end { 0 < length (plan_of batch.now self.old.used (capacity_in self.old.opening) self.old.rid).fresh → MeetsEnd self.old.opening self.old.newest 1 pool.old → (result ≡ Err LogError.Spent) ⊎ (result ≡ Err LogError.Memory) }
@@ -186,7 +189,8 @@ impl Log {
         Ok(spots)
     }
 
-    /// Syncs each file in which the last batch is pending, in file order: one sync each. What is read of the journal stays.
+    /// Syncs each file in which the last batch is pending, in file order: one sync each. What is read of the journal stays,
+    /// and a journal that broke no damage rule breaks none.
     ///
     /// The log isn't ended. Where told, the site has the journal as the log's last call left it. After an error the log is
     /// ended; the files before the one whose sync failed are synced.
@@ -200,6 +204,7 @@ impl Log {
         ensures reading { Tells SeesTheSame (S.told site.old) (S.told site.new) }
         ensures stands { IfOk result (λ _. Tells (StandsStill self.old self.new) (S.told site.old) (S.told site.new)) }
         ensures read { IfOk result (λ _. (reads : List Read) → Carries (IsRead self.old reads) (IsRead self.new reads) (S.told site.old) (S.told site.new)) }
+        ensures sound { IfOk result (λ _. Carries (IsUndamaged self.old) (IsUndamaged self.new) (S.told site.old) (S.told site.new)) }
         ensures behind { IfOk result (λ _. Carries (IsUnmarkedBehind self.old) (IsUnmarkedBehind self.new) (S.told site.old) (S.told site.new)) }
         ensures pool { (pool : PoolState) (out : List ℕ) → Carries (IsPoolOf pool out) (IsPoolOf pool out) (S.told site.old) (S.told site.new) }
         ensures quiet { IfOk result (λ _. Carries (IsQuietBut self.old.unsynced) IsQuiet (S.told site.old) (S.told site.new)) }

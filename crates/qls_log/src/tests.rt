@@ -8,6 +8,7 @@ ghost use Rattle.qls_meaning.specs.Reading.{Read};
 ghost use Rattle.qls_meaning.specs.History.{AllUnmarked};
 ghost use Rattle.qls_log.specs.Appending.{FollowRids};
 ghost use Rattle.qls_log.specs.Reads.{IsRead, BeginsReading, batch_reads};
+ghost use Rattle.qls_log.specs.Soundness.{BeginsUndamaged, StaysUndamaged};
 
 use crate::{Log, LogError, Spot};
 use qls_blocks::Batch;
@@ -47,6 +48,7 @@ fn make<S: Site, N: Serials>(
     ensures there { IfOk result (λ log. IfSome (S.told site.new) (OnDisk (LogThere log))) }
     ensures log { IfOk result (λ log. (log.ended ≡ false) × (log.unsynced ≡ [])) }
     ensures begins { IfOk result (λ log. Tells (BeginsReading log) (S.told site.old) (S.told site.new)) }
+    ensures sound { IfOk result (λ log. Tells (BeginsUndamaged log) (S.told site.old) (S.told site.new)) }
 {
     let name = Name::new(b"a").ok_or(LogError::Memory)?;
     Log::create(alloc, site, pool, serials, JournalKind::Queue, name, HOME)
@@ -97,7 +99,8 @@ fn magic_at(files: &Seq<ImageFile>, file: usize, at: usize) -> Option<u64> {
     Some(number % (1 << 32))
 }
 
-/// Appends a batch of one enqueue, flushes it, and answers its spot. A batch is read then behind what was read before.
+/// Appends a batch of one enqueue, flushes it, and answers its spot. A batch is read then behind what was read before, and a
+/// journal that broke no damage rule breaks none.
 fn put<S: Site, N: Serials>(
     alloc: Global,
     log: &mut Log,
@@ -115,6 +118,7 @@ fn put<S: Site, N: Serials>(
     ensures there { IfOk result (λ _. IfSome (S.told site.new) (OnDisk (LogThere log.new))) }
     ensures pool { IfOk result (λ _. IfSome (S.told site.new) (OnDisk (IsPoolOf pool.new []))) }
     ensures read { IfOk result (λ _. (rs : List Record) × (0 < length rs) × Tells (λ a b. AllUnmarked a.now (moments_since a b) → (reads : List Read) → IsRead log.old reads a.now.disk → IsRead log.new (reads ++ batch_reads log.old rs) b.now.disk) (S.told site.old) (S.told site.new)) }
+    ensures sound { IfOk result (λ _. Tells (StaysUndamaged log.old log.new) (S.told site.old) (S.told site.new)) }
 {
     let rid = log.rid();
     if rid > 1_000_000 {

@@ -47,7 +47,7 @@ returns-in_err-flush-clause-drawn g c =
 pub returns-clause-log : goal.returns-clause-log
 returns-clause-log g c = λ m number body.
     has_written m c.args.log.now c.append.new.self c.flush.new.self c.in_ok-batch.batch c.in_ok-append.ensures.appended.0 (c.in_ok-batch.ensures.exact m number body) c.in_ok-append.ensures.appended.1 c.in_ok-flush.ensures.log
-    (subst IsSound (sym c.in_ok-flush.ensures.log) (sound_again c.append.new.self c.in_ok-append.ensures.sound))
+    (subst IsSound (sym c.in_ok-flush.ensures.log) (sound_again c.append.new.self c.in_ok-append.ensures.legal))
 
 pub returns-clause-told : goal.returns-clause-told
 returns-clause-told g c = λ m number body.

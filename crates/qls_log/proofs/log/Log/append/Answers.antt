@@ -28,6 +28,8 @@ use Rattle.qls_log.proofs.AppendSteps.{told_newest, told_meets, told_whole_after
 use Rattle.qls_log.proofs.Quiets.{told_pending}
 use Rattle.qls_log.proofs.Going.{told_may, told_on, told_handed, draws_on, draws_handed, draws_nothing}
 use Rattle.qls_log.proofs.Quiets.{AreAmong}
+use Rattle.qls_log.specs.Soundness.{StaysUndamaged}
+use Rattle.qls_log.proofs.Sound.{told_stays}
 use Rattle.qls_log.proofs.log.Log.append.Goals as goal
 
 pub take_files-requires-clause-fits : goal.take_files-requires-clause-fits
@@ -335,5 +337,35 @@ pub returns-clause-whole : goal.returns-clause-whole
 returns-clause-whole g c =
     told_whole_after _ c.take_files.new.pool _ (returns-clause-there g c) (returns-clause-pool g c)
 
+pub returns-clause-legal : goal.returns-clause-legal
+returns-clause-legal g c = invariant_of-self-2 g c refl
+
 pub returns-clause-sound : goal.returns-clause-sound
-returns-clause-sound g c = invariant_of-self-2 g c refl
+returns-clause-sound g c =
+    let l : LogState = record { opening = c.self.inside.opening; files = c.self.inside.files.items; newest = c.self.inside.newest; used = c.self.inside.used; rid = c.self.inside.rid; unsynced = c.self.inside.unsynced; ended = c.self.inside.ended } in
+    let new : LogState = record { opening = c.self.inside.opening; files = c.append.new.self.items; newest = c.self.inside.newest + length c.as_slice-fresh.result.now; used = c.used_behind-self-inside.result; rid = c.last_rid-self-inside.result; unsynced = c.in_ok-written.written; ended = false } in
+    let sound : IsSound l = c.self.invariant (ap (λ (x : LogState). x.ended) c.self.view_is ∙ c.requires.unended) in
+    let cap : c.capacity-capacity.result ≡ capacity_in l.opening = c.capacity-capacity.ensures.exact in
+    let taken : List HeadedFile = c.in_ok-taken.taken.items in
+    let files : new.files ≡ l.files ++ taken = c.in_ok-append.ensures.items in
+    let count : length taken ≡ length c.as_slice-fresh.result.now = headed_count l.opening l.newest c.as_slice-fresh.result.now taken c.in_ok-taken.ensures.headers in
+    let over : c.files_from-over.result.now ≡ from_newest l taken = search rules in
+    let written : c.in_ok-written.written ≡ ids (from_written c.capacity-capacity.result l.used c.files_from-over.result.now) = c.in_ok-written.ensures.written in
+    let unsynced : new.unsynced ≡ ids (written_files l taken) = written ∙ (λ i. ids (from_written (cap i) l.used (over i))) in
+    let writes = told_writes c.args.batch.now l taken c.files_from-over.result.now c.capacity-capacity.result c.in_ok-written.written (g.S.Site.told c.take_files.new.site) (g.S.Site.told c.write_batch.new.site) cap over written c.in_ok-written.ensures.told in
+    let size : length (batch_bytes l taken c.args.batch.now) ≡ c.in_ok-plan.plan.length = batch_size l taken c.args.batch.now c.in_ok-plan.plan.length c.in_ok-plan.ensures.own.bytes in
+    let some : 0 < length (batch_bytes l taken c.args.batch.now) = subst (λ n. 0 < n) (sym size) (block_facts c.args.batch.now c.in_ok-plan.plan.length c.requires.some c.in_ok-plan.ensures.own.bytes).0 in
+    let number : length taken ≡ (l.used + length (batch_bytes l taken c.args.batch.now) - 1) / capacity_in l.opening =
+    count ∙ ap length c.as_slice-fresh.ensures.same ∙ c.in_ok-plan.ensures.own.files ∙ (λ i. (l.used + sym size i - 1) / cap i) in
+    let flushed : l.unsynced ≡ [] = ap (λ (x : LogState). x.unsynced) c.self.view_is ∙ c.requires.flushed in
+    let there : IfSome (g.S.Site.told c.args.site.now) (OnDisk (LogThere l)) = subst (λ (x : LogState). IfSome (g.S.Site.told c.args.site.now) (OnDisk (LogThere x))) (sym c.self.view_is) c.requires.there in
+    let rids = subst (λ (x : LogState). FollowRids x.rid c.args.batch.now) (sym c.self.view_is) c.requires.rids in
+    let used : new.used + capacity_in l.opening * length taken ≡ l.used + length (batch_bytes l taken c.args.batch.now) =
+    (λ i. c.used_behind-self-inside.result + sym cap i * count i) ∙ c.used_behind-self-inside.ensures.exact ∙ ap (λ n. l.used + n) (sym size) in
+    let again : IsSound new = invariant_of-self-2 g c refl in
+    let planned : c.as_slice-fresh.result.now ≡ (plan_of c.args.batch.now l.used (capacity_in l.opening) l.rid).fresh =
+    c.as_slice-fresh.ensures.same ∙ ap (λ (p : Plan). p.fresh) (c.in_ok-plan.ensures.exact ∙ ap (λ n. plan_of c.args.batch.now l.used n l.rid) cap) in
+    subst (λ (x : LogState). Tells (StaysUndamaged x new) (g.S.Site.told c.args.site.now) (g.S.Site.told c.write_batch.new.site)) c.self.view_is
+    (told_stays l sound flushed c.args.pool.now c.take_files.new.pool taken c.as_slice-fresh.result.now c.in_ok-taken.ensures.headers c.in_ok-taken.ensures.legal c.args.batch.now
+    (filled_legal l.rid c.args.batch.now rids c.in_ok-spots.ensures.legal) some number new refl files used (ap (λ n. l.newest + n) (sym count)) again planned c.requires.some rids
+    (c.last_rid-self-inside.ensures.exact ∙ rid_of_some 0 l.rid c.args.batch.now c.requires.some) _ _ _ c.in_ok-taken.ensures.told writes there c.requires.pool)

@@ -9,6 +9,8 @@ use Rattle.qls_log.specs.Taking.{TakesFiles}
 use Rattle.qls_log.specs.Standing.{LogThere, StandsWith}
 use Rattle.qls_log.specs.Appending.{ReadsNone}
 use Rattle.qls_log.specs.Reads.{BeginsReading}
+use Rattle.qls_log.specs.Soundness.{BeginsUndamaged}
+use Rattle.qls_log.proofs.Sound.{told_begun}
 use Rattle.qls_log.proofs.News.{spent_at_once, told_new, told_start, told_reads, told_begins, told_others, room_of}
 use Rattle.qls_log.proofs.Going.{told_first}
 use Rattle.qls_log.proofs.Quiets.{told_quiet_files}
@@ -66,3 +68,12 @@ take_files-requires-clause-start g c = told_first (record { kind = c.args.kind; 
 
 pub returns-clause-quiet : goal.returns-clause-quiet
 returns-clause-quiet g c = told_quiet_files c.args.home c.args.pool.now c.take_files.new.pool c.in_ok-files.files.items _ _ c.in_ok-files.ensures.told
+
+pub returns-clause-sound : goal.returns-clause-sound
+returns-clause-sound g c =
+    let o : Opening = record { kind = c.args.kind; name = c.args.name; home = c.args.home; epoch = 1 } in
+    let n = returns-clause-new g c in
+    let there = subst (λ (l : LogState). IfSome (g.S.Site.told c.take_files.new.site) (OnDisk (LogThere l))) n.log (returns-clause-there g c) in
+    let begins = subst (λ (l : LogState). Tells (BeginsReading l) (g.S.Site.told c.args.site.now) (g.S.Site.told c.take_files.new.site)) n.log (returns-clause-begins g c) in
+    subst (λ (l : LogState). Tells (BeginsUndamaged l) (g.S.Site.told c.args.site.now) (g.S.Site.told c.take_files.new.site)) (sym n.log)
+    (told_begun o n.file (g.S.Site.told c.args.site.now) (g.S.Site.told c.take_files.new.site) n.header there begins)

@@ -7,6 +7,8 @@ use Rattle.qls_log.specs.Logs.{LogState, IsSound}
 use Rattle.qls_log.specs.Standing.{LogThere, IsUnmarkedBehind}
 use Rattle.qls_log.specs.Appending.{StandsStill, IsQuietBut, ReadsInImages}
 use Rattle.qls_log.specs.Reads.{IsRead}
+use Rattle.qls_log.specs.Soundness.{IsUndamaged}
+use Rattle.qls_log.proofs.Sound.{told_still_undamaged}
 use Rattle.qls_log.proofs.Flushes.{there_are, waiting_of, told_same, told_pool, told_quiet, told_images, told_there, told_still, told_read, told_behind, told_orderly_ok, told_orderly_err}
 use Rattle.qls_log.specs.Faults.{fault_of_site}
 use Rattle.qls_log.specs.Steps.{IsLogStep, GoesBy}
@@ -106,3 +108,8 @@ returns-clause-none g c =
     let own = told_log_own l _ sound (subst (λ (x : LogState). IfSome (g.S.Site.told c.args.site.now) (OnDisk (LogThere x))) (sym c.self.view_is) c.requires.there) in
     let went = ended_own (Unit {0}) l.opening l.unsynced c.in_ok-sync_parts.field-0 (tt {0}) _ _ (told_syncs l.opening l.unsynced (Ok c.in_ok-sync_parts.field-0) _ _ own c.in_ok-sync_parts.ensures.told) in
     none_of l.opening (Ok (tt {0})) _ _ went
+
+pub returns-clause-sound : goal.returns-clause-sound
+returns-clause-sound g c =
+    subst (λ (l : LogState). Carries (IsUndamaged c.args.self.now) (IsUndamaged l) (g.S.Site.told c.args.site.now) (g.S.Site.told c.sync_parts.new.site)) (sym (returns-clause-log g c))
+    (told_still_undamaged c.args.self.now c.self.inside.unsynced (Ok c.in_ok-sync_parts.field-0) _ _ c.in_ok-sync_parts.ensures.told)

@@ -1,0 +1,24 @@
+// Laws of a journal without its oldest file.
+ghost use Rattle.std.specs.Prelude.{◌≡◌, ◌<◌, [], ◌∷◌, length, true, false};
+ghost use Rattle.std.specs.List.{filter};
+ghost use Rattle.qls_meaning.specs.Journals.{Journal, is_queue};
+ghost use Rattle.qls_meaning.specs.Reading.{journal_reading};
+ghost use Rattle.qls_meaning.specs.Dead.{oldest_number, has_dead_oldest};
+ghost use Rattle.qls_meaning.specs.Meaning.{queue_of, entries_of};
+ghost use Rattle.qls_laws.specs.Returns.{IsWholeRun, without_oldest, starts_elsewhere};
+
+/// Where a journal of one epoch breaks no rule and none of its files lies past its reading, the same holds without its oldest
+/// file, and what is read then are the records that start in the files that are left, at the places where they lay.
+pub fn oldest_file_may_go()
+    ensures whole { (j : Journal) → 1 < length j.files → IsWholeRun j → IsWholeRun (without_oldest j) }
+    ensures reading { (j : Journal) → 1 < length j.files → IsWholeRun j
+        → journal_reading (without_oldest j) ≡ filter (starts_elsewhere (oldest_number j.files)) (journal_reading j) }
+{}
+
+/// Such a journal means the same without its oldest file, where that is dead: a queue has its last number and its messages, and
+/// the prepared list its entries.
+pub fn dead_file_says_nothing()
+    ensures queue { (j : Journal) → IsWholeRun j → has_dead_oldest j ≡ true → is_queue j.kind ≡ true → queue_of (without_oldest j) ≡ queue_of j }
+    ensures list { (j : Journal) → IsWholeRun j → has_dead_oldest j ≡ true → is_queue j.kind ≡ false
+        → entries_of (without_oldest j ∷ []) ≡ entries_of (j ∷ []) }
+{}
