@@ -33,8 +33,8 @@ impl QueueReplay {
     ghost use Rattle.qls_txnmap.specs.Pending.{ops_of};
     ghost use Rattle.qls_meaning.specs.Reading.{read_of};
     ghost use Rattle.qls_meaning.specs.Replay.{after_record};
-    ghost use Rattle.qls_replay.specs.Held.{held_after, messages_of, IsAbove};
-    ghost use Rattle.qls_replay.specs.Ops.{Agrees, moves_by};
+    ghost use Rattle.qls_replay.specs.Held.{held_after, ended_held, messages_of, IsAbove};
+    ghost use Rattle.qls_replay.specs.Ops.{Agrees, moves_by, verdict_if};
     ghost use Rattle.std.specs.List.{list_any};
     ghost use Rattle.std.specs.List.Sorted.{IsStrictlySortedBy};
     ghost use Rattle.std.specs.Ordering.{nat_cmp};
@@ -91,6 +91,13 @@ impl QueueReplay {
             }
             _ => self.apply(&got),
         }
+    }
+
+    /// Ends a transaction, as its commit or abort does. It takes no memory.
+    pub fn end(&mut self, xid: &Xid, commit: bool)
+        ensures held { self.new.held ≡ ended_held xid.now (verdict_if commit) self.old.held }
+    {
+        end_transaction(&mut self.held, &mut self.txns, xid, commit);
     }
 
     /// The messages that are held.

@@ -1,0 +1,5 @@
+pub mod Writes
+pub mod Replays
+pub mod Says
+pub mod Applied
+pub mod Finds

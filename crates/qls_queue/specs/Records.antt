@@ -1,0 +1,34 @@
+-- The records that a queue writes.
+use Rattle.std.specs.Prelude.{ℕ, ◌+◌, ◌<◌, ◌≤◌, false, List, [], length, Option, Some, None}
+use Rattle.qls_shape.specs.declared.Version.TheVariants.{Two}
+use Rattle.qls_record.specs.declared.Kind.TheVariants.{Enqueue, Dequeue}
+use Rattle.qls_record.specs.Record.{Record, record_length}
+use Rattle.qls_meaning.specs.Reading.{Read}
+use Rattle.qls_model.specs.declared.machine.PoolId.{PoolId}
+use Rattle.qls_filehdr.specs.declared.JournalKind.TheVariants.{Queue}
+use Rattle.qls_log.specs.declared.opening.Opening.{Opening}
+use Rattle.qls_log.specs.Logs.{LogState, capacity_in}
+use Rattle.qls_log.specs.Reads.{read_in}
+
+-- a record without a transaction has an empty xid
+abbrev pub xid_of : Option (List ℕ) → List ℕ
+xid_of None = []
+xid_of (Some x) = x
+
+-- 1 to 128 bytes
+abbrev pub IsXid : List ℕ → Type 0
+IsXid x = (0 < length x) × (length x ≤ 128)
+
+abbrev pub enqueue_of : ℕ → List ℕ → Option (List ℕ) → Record
+enqueue_of number body xid = record { kind = Enqueue; flagged = false; rid = number; target = 0; xid = xid_of xid; props = []; body = body }
+
+abbrev pub dequeue_of : ℕ → ℕ → Option (List ℕ) → Record
+dequeue_of last number xid = record { kind = Dequeue; flagged = false; rid = last; target = number; xid = xid_of xid; props = []; body = [] }
+
+-- the record as the log lays it, where it is alone in its batch
+abbrev pub read_at : LogState → Record → Read
+read_at l r = read_in (capacity_in l.opening) l.newest (record { what = r; at = l.used; after = l.used + record_length Two r })
+
+-- what the files of a queue's first opening have in common
+abbrev pub opening_of : List ℕ → PoolId → Opening
+opening_of name home = record { kind = Queue; name = name; home = home; epoch = 1 }
