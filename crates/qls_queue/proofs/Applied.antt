@@ -51,7 +51,7 @@ next_queue log new hs next r b c w e h =
     ∙ ap (λ (gs : List Held). record { name = log.opening.name; last = r.rid; messages = messages_of gs }) h
     ∙ sym (queue_one (read_at log r) log.opening.name log.rid hs e)
 
-more_files : (hs taken all : List HeadedFile) → all ≡ hs ++ taken → 0 < length hs → 0 < length all
+pub more_files : (hs taken all : List HeadedFile) → all ≡ hs ++ taken → 0 < length hs → 0 < length all
 more_files hs taken all e some = omega (arith, some, ap length e, length-append hs taken)
 
 pub next_sound : (log new : LogState) (hs next : List Held) (r : Record) (b : Bool) → IsSound (live log hs b) → Behind (r ∷ []) log new → new.ended ≡ false → r.rid ≡ rid_given log.rid r.kind → r.rid < 2 ^ 62

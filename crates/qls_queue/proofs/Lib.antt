@@ -3,3 +3,4 @@ pub mod Replays
 pub mod Says
 pub mod Applied
 pub mod Finds
+pub mod Ended

@@ -46,21 +46,21 @@ held_one l r hs = fillers_held (capacity_in l.opening) l.newest (l.used + record
 
 -- ---- the queue of what is held
 
-name_after : (k : Kind) (r : Record) (q : QueueState) → (after_record k r q).name ≡ q.name
+pub name_after : (k : Kind) (r : Record) (q : QueueState) → (after_record k r q).name ≡ q.name
 name_after Enqueue r q = refl
 name_after Dequeue r q = refl
 name_after Commit r q = refl
 name_after Abort r q = refl
 name_after Filler r q = refl
 
-last_after : (k : Kind) (r : Record) (q : QueueState) → r.rid ≡ rid_given q.last k → (after_record k r q).last ≡ r.rid
+pub last_after : (k : Kind) (r : Record) (q : QueueState) → r.rid ≡ rid_given q.last k → (after_record k r q).last ≡ r.rid
 last_after Enqueue r q e = refl
 last_after Dequeue r q e = sym e
 last_after Commit r q e = sym e
 last_after Abort r q e = sym e
 last_after Filler r q e = sym e
 
-parts : (q : QueueState) (name : List ℕ) (last : ℕ) (ms : List Message) → q.name ≡ name → q.last ≡ last → q.messages ≡ ms → q ≡ record { name = name; last = last; messages = ms }
+pub parts : (q : QueueState) (name : List ℕ) (last : ℕ) (ms : List Message) → q.name ≡ name → q.last ≡ last → q.messages ≡ ms → q ≡ record { name = name; last = last; messages = ms }
 parts q name last ms a b c =
     ap (λ (n : List ℕ). record { name = n; last = q.last; messages = q.messages }) a ∙ ap (λ (n : ℕ). record { name = name; last = n; messages = q.messages }) b
     ∙ ap (λ (xs : List Message). record { name = name; last = last; messages = xs }) c

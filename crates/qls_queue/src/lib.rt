@@ -4,6 +4,7 @@
 //! the log and flushes it before it answers; what the records of the journal make is then the queue again.
 #![tactic(auto)]
 
+mod ends;
 mod fault;
 mod heads;
 mod live;

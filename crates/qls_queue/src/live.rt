@@ -7,6 +7,7 @@ ghost use Rattle.qls_pool.specs.Pools.{IsSpent};
 ghost use Rattle.qls_pool.specs.Files.{IsPoolOf, IsWholePool, OnDisk};
 ghost use Rattle.qls_pool.specs.Discipline.{Orderly};
 ghost use Rattle.qls_meaning.specs.Replay.{after_record};
+ghost use Rattle.std.specs.List.{AllByRecursion};
 ghost use Rattle.std.specs.List.Sorted.{IsStrictlySortedBy};
 ghost use Rattle.std.specs.Ordering.{nat_cmp};
 ghost use Rattle.std.specs.Cmp.Lexicographic.{slice_cmp};
@@ -23,11 +24,13 @@ ghost use Rattle.qls_log.specs.Appending.{IsNew, LeavesOthers};
 ghost use Rattle.qls_queue.specs.Live.{QueueThere, BeginsQueue, QueueReadsOn};
 ghost use Rattle.qls_queue.specs.Faults.{is_end, is_fault, QueueCauses};
 ghost use Rattle.qls_queue.specs.Writing.{HasWritten};
-ghost use Rattle.qls_queue.specs.Records.{opening_of, enqueue_of, dequeue_of, IsXid};
+ghost use Rattle.qls_queue.specs.Records.{opening_of, enqueue_of, dequeue_of, end_records, ended_by, IsXid};
 
+use crate::ends::{batch_of_ends, end_all};
 use crate::fault::QueueError;
 use crate::heads::{body_copy, dequeue, enqueue, may_take, xid_or_none};
-use crate::write::write_one;
+use crate::write::{write_batch, write_one};
+use qls_decide::End;
 use qls_filehdr::JournalKind;
 use qls_log::Log;
 use qls_model::{Bytes, Name, NoMemory, PoolId, Seq, Status, Xid};
@@ -238,6 +241,46 @@ impl LiveQueue {
         let head = dequeue(self.log.rid(), number, &xid);
         let body = Bytes::from_vec(Vec::new(self.alloc));
         self.write_record(site, pool, serials, head, xid, body)
+    }
+
+    /// Ends transactions, in order: each as a commit or an abort of its xid does. It appends one batch with a record for
+    /// each end, flushes it, and then ends them in the queue. An end whose xid isn't pending changes nothing.
+    ///
+    /// There is at least one end, and each xid has 1 to 128 bytes. The queue isn't ended; where told, the site has its
+    /// journal as its last call left it, and the pool is the site's, with no file out. After an error the queue is ended.
+    pub fn finish<S: Site, N: Serials>(
+        &mut self,
+        site: &mut S,
+        pool: &mut Pool,
+        serials: &mut N,
+        ends: &Seq<End>,
+    ) -> Result<(), QueueError>
+        requires unended { self.old.ended ≡ false }
+        requires some { 0 < length ends.now }
+        requires xids { AllByRecursion (λ e. IsXid e.xid) ends.now }
+        requires there { IfSome (S.told site.old) (OnDisk (QueueThere self.old)) }
+        requires pool { IfSome (S.told site.old) (OnDisk (IsPoolOf pool.old [])) }
+        ensures ended { self.new.ended ≡ is_end result }
+        ensures refusals { IfErr result (λ e. is_fault e ≡ true) }
+        ensures queue { IfOk result (λ _. self.new.queue ≡ ended_by ends.now self.old.queue) }
+        ensures written { IfOk result (λ _. HasWritten (end_records self.old.queue.last ends.now) self.old.log self.new.log pool.old pool.new (N.drawn serials.old) (N.drawn serials.new) (S.told site.old) (S.told site.new)) }
+        ensures there { IfOk result (λ _. IfSome (S.told site.new) (OnDisk (QueueThere self.new))) }
+        ensures pool { IfOk result (λ _. IfSome (S.told site.new) (OnDisk (IsPoolOf pool.new []))) }
+        ensures reading { IfOk result (λ _. Tells (QueueReadsOn self.old self.new) (S.told site.old) (S.told site.new)) }
+        ensures others { IfOk result (λ _. Tells (LeavesOthers self.new.log.files) (S.told site.old) (S.told site.new)) }
+        ensures spent { result ≡ Err QueueError.Spent → MeetsEnd self.old.log.opening self.old.log.newest (length (plan_of (end_records self.old.queue.last ends.now) self.old.log.used (capacity_in self.old.log.opening) self.old.log.rid).fresh) pool.new }
+        ensures at_end { 0 < length (plan_of (end_records self.old.queue.last ends.now) self.old.log.used (capacity_in self.old.log.opening) self.old.log.rid).fresh → MeetsEnd self.old.log.opening self.old.log.newest 1 pool.old → (result ≡ Err QueueError.Spent) ⊎ (result ≡ Err QueueError.Memory) }
+        ensures cause { QueueCauses (S.faults site.old) (S.faults site.new) (N.faults serials.old) (N.faults serials.new) result }
+        ensures reads { S.reads site.new ≡ S.reads site.old }
+    {
+        let last = self.log.rid();
+        self.ended = true;
+        let ends = ends.as_slice();
+        let batch = batch_of_ends(self.alloc, last, ends)?;
+        let _spots = write_batch(&mut self.log, site, pool, serials, &batch)?;
+        end_all(&mut self.tables, ends);
+        self.ended = false;
+        Ok(())
     }
 
     /// A copy of the body of the message of that number. It makes no call on the site and changes nothing.

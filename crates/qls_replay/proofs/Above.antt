@@ -22,7 +22,7 @@ left_one : (n : ℕ) (h : Held) (o : Option Message) (hs : List Held) → h.rid 
 left_one n h None hs l b = b
 left_one n h (Some m) hs l b = (l, b)
 
-left_below : (n : ℕ) (change : Message → Option Message) (hs : List Held) → AllBelow n hs → AllBelow n (left_held change hs)
+pub left_below : (n : ℕ) (change : Message → Option Message) (hs : List Held) → AllBelow n hs → AllBelow n (left_held change hs)
 left_below n change [] b = tt
 left_below n change (h ∷ hs) b = left_one n h (change (message_of h)) (left_held change hs) b.0 (left_below n change hs b.1)
 
