@@ -1,5 +1,6 @@
 -- The queue behind one record.
-use Rattle.std.proofs.Common.{◌≡◌, ℕ, ◌+◌, ◌^◌, ◌<◌, Bool, false, List, [], ◌∷◌, ◌++◌, length, Option, IfSome, refl, sym, ap, ◌∙◌, subst, arith, length-append}
+use Rattle.std.proofs.Common.{◌≡◌, ℕ, ◌+◌, ◌^◌, ◌<◌, ◌≤◌, Bool, false, List, [], ◌∷◌, ◌++◌, length, Option, IfSome, refl, sym, ap, ◌∙◌, subst, arith, length-append}
+use Rattle.std.specs.List.{AllByRecursion}
 use Rattle.qls_record.specs.Record.{Record, rid_given}
 use Rattle.qls_model.specs.declared.machine.QueueState.{QueueState}
 use Rattle.qls_site.specs.Content.{Content, Tells}
@@ -19,7 +20,8 @@ use Rattle.qls_log.specs.Reads.{ReadsOn}
 use Rattle.qls_log.specs.Appending.{HasAppended}
 use Rattle.qls_queue.specs.Live.{LiveState, live, IsSound, QueueReadsOn}
 use Rattle.qls_queue.specs.Writing.{HasWritten}
-use Rattle.qls_queue.specs.Records.{read_at}
+use Rattle.qls_queue.specs.Records.{read_at, HasXid}
+use Rattle.qls_queue.proofs.Xids.{xids_after}
 use Rattle.qls_queue.proofs.Replays.{queue_one, held_one}
 use Rattle.qls_queue.proofs.Says.{told_says}
 
@@ -54,15 +56,19 @@ next_queue log new hs next r b c w e h =
 pub more_files : (hs taken all : List HeadedFile) → all ≡ hs ++ taken → 0 < length hs → 0 < length all
 more_files hs taken all e some = omega (arith, some, ap length e, length-append hs taken)
 
-pub next_sound : (log new : LogState) (hs next : List Held) (r : Record) (b : Bool) → IsSound (live log hs b) → Behind (r ∷ []) log new → new.ended ≡ false → r.rid ≡ rid_given log.rid r.kind → r.rid < 2 ^ 62
+pub next_sound : (log new : LogState) (hs next : List Held) (r : Record) (b : Bool) → IsSound (live log hs b) → Behind (r ∷ []) log new → new.ended ≡ false → r.rid ≡ rid_given log.rid r.kind → r.rid < 2 ^ 62 → length r.xid ≤ 128
     → next ≡ held_after r.kind (read_at log r) hs → IsSound (live new next false)
-next_sound log new hs next r b s w unended e fits h = record {
+next_sound log new hs next r b s w unended e fits short h = record {
+  name = refl;
+  rid = refl;
+  messages = refl;
   unended = unended;
   kind = ap (λ (o : Opening). o.kind) w.opening ∙ s.kind;
   flushed = w.unsynced;
   some = more_files log.files w.taken new.files w.files s.some;
   last = subst (λ n. n < 2 ^ 62) (sym w.rid) fits;
   below = subst (λ n. AllBelow (n + 1) next) (sym w.rid) (subst (AllBelow (r.rid + 1)) (sym h) (below_after r.kind (read_at log r) log.rid r.rid hs e refl s.below));
+  xids = subst (AllByRecursion (λ g. HasXid g.status)) (sym h) (xids_after r.kind (read_at log r) hs short s.xids);
 }
 
 pub next_says : (log new : LogState) (hs next : List Held) (r : Record) (b c : Bool) (a z : Option Content) → IsSound (live log hs b) → Behind (r ∷ []) log new → r.rid ≡ rid_given log.rid r.kind

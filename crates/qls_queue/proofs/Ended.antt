@@ -1,5 +1,6 @@
 -- A batch of ends, and the queue behind a batch.
 use Rattle.std.proofs.Common.{◌≡◌, ℕ, zero, suc, ◌+◌, ◌^◌, ◌<◌, Bool, true, false, List, [], ◌∷◌, ◌++◌, map, replicate, length, Option, IfSome, refl, sym, ap, ◌∙◌, subst, arith}
+use Rattle.std.specs.List.{AllByRecursion}
 use Rattle.qls_shape.specs.declared.Version.TheVariants.{Two}
 use Rattle.qls_record.specs.declared.Kind.{Kind}
 use Rattle.qls_record.specs.declared.Kind.TheVariants.{Enqueue, Dequeue, Commit, Abort, Filler}
@@ -27,7 +28,8 @@ use Rattle.qls_log.specs.Appending.{FollowRids}
 use Rattle.qls_log.specs.Reads.{ReadsOn, batch_reads, read_in}
 use Rattle.qls_log.proofs.Behind.{batch_whats}
 use Rattle.qls_queue.specs.Live.{LiveState, live, IsSound, QueueReadsOn}
-use Rattle.qls_queue.specs.Records.{end_kind, end_record, end_records, ended_by, held_ended}
+use Rattle.qls_queue.specs.Records.{end_kind, end_record, end_records, ended_by, held_ended, HasXid}
+use Rattle.qls_queue.proofs.Xids.{xids_end}
 use Rattle.qls_queue.proofs.Replays.{fillers_held, queue_filled, name_after, last_after, parts}
 use Rattle.qls_queue.proofs.Applied.{Behind, more_files}
 use Rattle.qls_queue.proofs.Says.{told_says}
@@ -78,6 +80,10 @@ ends_below : (n : ℕ) (es : List End) (hs : List Held) → AllBelow n hs → Al
 ends_below n [] hs b = b
 ends_below n (e ∷ es) hs b = ends_below n es (ended_held e.xid (verdict_if e.commit) hs) (left_below n (λ m. left_by (only e.xid (verdict_if e.commit)) m.status m) hs b)
 
+ends_xids : (es : List End) (hs : List Held) → AllByRecursion (λ h. HasXid h.status) hs → AllByRecursion (λ h. HasXid h.status) (held_ended es hs)
+ends_xids [] hs x = x
+ends_xids (e ∷ es) hs x = ends_xids es (ended_held e.xid (verdict_if e.commit) hs) (xids_end (only e.xid (verdict_if e.commit)) hs x)
+
 -- ---- the queue behind a batch
 
 name_all : (rs : List Record) (q : QueueState) → (queue_after rs q).name ≡ q.name
@@ -111,12 +117,16 @@ pub ended_sound : (log new : LogState) (hs next : List Held) (es : List End) (b 
 ended_sound log new hs next es b s w unended h =
     let rid : new.rid ≡ log.rid = w.rid ∙ ends_last log.rid es in
     record {
+      name = refl;
+      rid = refl;
+      messages = refl;
       unended = unended;
       kind = ap (λ (o : Opening). o.kind) w.opening ∙ s.kind;
       flushed = w.unsynced;
       some = more_files log.files w.taken new.files w.files s.some;
       last = subst (λ n. n < 2 ^ 62) (sym rid) s.last;
       below = subst (λ n. AllBelow (n + 1) next) (sym rid) (subst (AllBelow (log.rid + 1)) (sym h) (ends_below (log.rid + 1) es hs s.below));
+      xids = subst (AllByRecursion (λ g. HasXid g.status)) (sym h) (ends_xids es hs s.xids);
     }
 
 pub ended_says : (log new : LogState) (hs next : List Held) (es : List End) (b c : Bool) (a z : Option Content) → IsSound (live log hs b) → Behind (end_records log.rid es) log new → next ≡ held_ended es hs

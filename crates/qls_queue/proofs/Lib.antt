@@ -1,3 +1,4 @@
+pub mod Xids
 pub mod Writes
 pub mod Replays
 pub mod Says

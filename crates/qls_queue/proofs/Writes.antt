@@ -1,5 +1,6 @@
 -- A batch that is appended and then flushed.
-use Rattle.std.proofs.Common.{◌≡◌, ◌⊎◌, inl, inr, ℕ, zero, suc, ◌+◌, ◌-◌, ◌<◌, ◌≤◌, Bool, true, false, cond, ◌||◌, ◌==◌, eqb, List, [], ◌∷◌, ◌++◌, map, length, drop, Option, Some, None, Result, Ok, Err, refl, sym, ap, ap₂, ◌∙◌, subst, append_assoc, append-nil, option_map, arith}
+use Rattle.std.proofs.Common.{◌≡◌, ◌⊎◌, inl, inr, ℕ, zero, suc, ◌+◌, ◌-◌, ◌<◌, ◌≤◌, Bool, true, false, cond, ◌||◌, ◌==◌, eqb, List, [], ◌∷◌, ◌++◌, map, length, drop, Option, Some, None, Result, Ok, Err, IsErr, refl, sym, ap, ap₂, ◌∙◌, subst, append_assoc, append-nil, option_map, arith}
+use Rattle.std.proofs.lemmas.List.{length-map, length-drop}
 use Rattle.std.proofs.Math.Seq.{drop-append_seam}
 use Rattle.qls_record.specs.Record.{Record}
 use Rattle.qls_site.specs.Disk.{Disk, FileState, file_of, sync_at, changed, all_written}
@@ -15,6 +16,9 @@ use Rattle.qls_log.specs.Logs.{LogState, capacity_in, ids}
 use Rattle.qls_log.specs.Writing.{from_written}
 use Rattle.qls_log.specs.Appending.{TakesAndWrites, SyncsAll, LeavesOthers, HasAppended, written_files, from_newest}
 use Rattle.qls_log.specs.Reads.{IsRead, ReadsOn, batch_reads}
+use Rattle.qls_blocks.specs.Plans.{plan_of}
+use Rattle.qls_log.specs.Faults.{Counts}
+use Rattle.qls_log.proofs.Appended.{headed_count, tail_length}
 use Rattle.qls_log.proofs.Behind.{unmarked_first}
 use Rattle.qls_queue.specs.Writing.{WritesAndSyncs}
 
@@ -131,3 +135,34 @@ told_others rs old mid new taken x (Some w) (Some y) (Some z) p e r s = others r
 pub rose_later : (a b c : ℕ) → a ≤ b → Rose b c → Rose a c
 rose_later a b c h (inl l) = inl (omega (arith, h, l))
 rose_later a b c h (inr e) = inr e
+
+-- ---- syncs
+
+pub counts_then : (E : Type 0) {X Y : Type 0} (R : Content → Content → Type 0) (v : X) (w : Y) (a m : Option Content) (k j before between now : ℕ) → Tells R a m → Counts {X = X} {E = E} a (Ok v) k before between
+    → Counts {X = Y} {E = E} m (Ok w) j between now → Counts {X = X} {E = E} a (Ok v) (k + j) before now
+counts_then E R v w None None k j before between now t s u = (omega (arith, s.0, u.0), omega (arith, s.1, u.1))
+counts_then E R v w None (Some y) k j before between now t s u = absurd t
+counts_then E R v w (Some x) None k j before between now t s u = absurd t
+counts_then E R v w (Some x) (Some y) k j before between now t s u = omega (arith, s, u)
+
+pub counts_failed : (Y E F : Type 0) {X Z : Type 0} (R : Content → Content → Type 0) (v : X) (e : F) (r : Result Z E) (a m : Option Content) (k j before between now : ℕ) → IsErr r → Tells R a m → Counts {X = X} {E = E} a (Ok v) k before between
+    → Counts {X = Y} {E = F} m (Err e) j between now → Counts {X = Z} {E = E} a r (k + j) before now
+counts_failed Y E F R v e (Ok z) a m k j before between now i t s u = absurd (cc)
+counts_failed Y E F R v e (Err f) None None k j before between now i t s u = (omega (arith, s.0, u.0), omega (arith, s.1, u.1))
+counts_failed Y E F R v e (Err f) None (Some y) k j before between now i t s u = absurd t
+counts_failed Y E F R v e (Err f) (Some x) None k j before between now i t s u = absurd t
+counts_failed Y E F R v e (Err f) (Some x) (Some y) k j before between now i t s u = (omega (arith, s, u.0), omega (arith, s, u.1))
+
+written_by : (cap used k : ℕ) (hs : List HeadedFile) → length hs ≡ k + 1 → length (from_written cap used hs) ≡ cond (eqb used cap) k (k + 1)
+written_by cap used k hs e =
+    elim (eqb used cap) as (λ b. length (cond b (drop 1 hs) hs) ≡ cond b k (k + 1)) [
+      | true ↦ length-drop 1 hs ∙ omega (arith, e)
+      | false ↦ e
+    ]
+
+-- the files with pending writes are those from the newest one on, but for a full one
+pub pending_count : (rs : List Record) (old mid : LogState) (taken : List HeadedFile) → HasAppended rs old mid taken → 0 < length old.files
+    → length mid.unsynced ≡ (let n = length (plan_of rs old.used (capacity_in old.opening) old.rid).fresh in cond (eqb old.used (capacity_in old.opening)) n (n + 1))
+pending_count rs old mid taken p some =
+    ap length p.unsynced ∙ length-map (written_files old taken) (λ (h : HeadedFile). h.id)
+    ∙ written_by (capacity_in old.opening) old.used (length (plan_of rs old.used (capacity_in old.opening) old.rid).fresh) (from_newest old taken) (tail_length old.files taken _ some (headed_count old.opening old.newest _ taken p.headers))

@@ -1,5 +1,6 @@
 -- A queue held live, and what its journal on a disk says of it.
 use Rattle.std.specs.Prelude.{◌≡◌, ℕ, ◌+◌, ◌^◌, ◌<◌, Bool, false, List, [], ◌++◌, length}
+use Rattle.std.specs.List.{AllByRecursion}
 use Rattle.qls_model.specs.declared.machine.QueueState.{QueueState}
 use Rattle.qls_site.specs.Disk.{Disk}
 use Rattle.qls_site.specs.Content.{Content, moments_since}
@@ -14,6 +15,7 @@ use Rattle.qls_replay.specs.Held.{messages_of, held_after_all}
 use Rattle.qls_log.specs.Logs.{LogState}
 use Rattle.qls_log.specs.Standing.{LogThere}
 use Rattle.qls_log.specs.Reads.{IsRead}
+use Rattle.qls_queue.specs.Records.{HasXid}
 
 -- A log, the queue that its records make, and the records of the queue's messages, each with the files where it lies. A value that is
 -- ended may not be used again
@@ -32,14 +34,19 @@ live log held ended = record {
   ended = ended;
 }
 
--- what holds of every live queue that isn't ended: all is flushed, and no number is above the last
+-- what holds of every live queue that isn't ended: the queue is that of its log, all is flushed, no number is above the last, and xids
+-- are within their limits
 pub record IsSound (q : LiveState) : Type 0 where
+  pub name : q.queue.name ≡ q.log.opening.name
+  pub rid : q.queue.last ≡ q.log.rid
+  pub messages : q.queue.messages ≡ messages_of q.held
   pub unended : q.log.ended ≡ false
   pub kind : q.log.opening.kind ≡ Queue
   pub flushed : q.log.unsynced ≡ []
   pub some : 0 < length q.log.files
   pub last : q.log.rid < 2 ^ 62
   pub below : AllBelow (q.log.rid + 1) q.held
+  pub xids : AllByRecursion (λ h. HasXid h.status) q.held
 
 -- ---- on a disk
 

@@ -7,6 +7,8 @@ use Rattle.qls_record.specs.Record.{Record, record_length}
 use Rattle.qls_meaning.specs.Reading.{Read}
 use Rattle.qls_model.specs.Messages.{decided, only}
 use Rattle.qls_model.specs.declared.machine.PoolId.{PoolId}
+use Rattle.qls_model.specs.declared.machine.Status.{Status}
+use Rattle.qls_model.specs.declared.machine.Status.TheVariants.{Ready, Coming, Going}
 use Rattle.qls_model.specs.declared.machine.QueueState.{QueueState}
 use Rattle.qls_decide.specs.declared.End.{End}
 use Rattle.qls_enqmap.specs.declared.Held.{Held}
@@ -25,6 +27,12 @@ xid_of (Some x) = x
 -- 1 to 128 bytes
 abbrev pub IsXid : List ℕ → Type 0
 IsXid x = (0 < length x) × (length x ≤ 128)
+
+-- the xid by which a message is coming or going
+abbrev pub HasXid : Status → Type 0
+HasXid Ready = Unit {0}
+HasXid (Coming x) = IsXid x
+HasXid (Going x) = IsXid x
 
 abbrev pub enqueue_of : ℕ → List ℕ → Option (List ℕ) → Record
 enqueue_of number body xid = record { kind = Enqueue; flagged = false; rid = number; target = 0; xid = xid_of xid; props = []; body = body }

@@ -1,10 +1,11 @@
 -- A batch that is appended and flushed.
-use Rattle.std.specs.Prelude.{◌≡◌, ℕ, List, [], Option, Ok}
+use Rattle.std.specs.Prelude.{◌≡◌, ℕ, ◌+◌, List, [], length, Option, Ok, if◌then◌else◌, ◌==◌}
 use Rattle.qls_record.specs.Record.{Record}
 use Rattle.qls_site.specs.Content.{Content, Tells}
 use Rattle.qls_pool.specs.Pools.{PoolState}
 use Rattle.qls_pool.specs.Files.{HeadedFile}
-use Rattle.qls_log.specs.Logs.{LogState}
+use Rattle.qls_blocks.specs.Plans.{plan_of}
+use Rattle.qls_log.specs.Logs.{LogState, capacity_in}
 use Rattle.qls_log.specs.Taking.{DrawsEach}
 use Rattle.qls_log.specs.Appending.{HasAppended, TakesAndWrites, SyncsAll}
 
@@ -22,3 +23,7 @@ pub record HasWritten (rs : List Record) (old new : LogState) (pool left : PoolS
   pub flushed : new ≡ record between { unsynced = [] }
   pub drawn : DrawsEach taken draws draws_now
   pub told : Tells (WritesAndSyncs rs old between pool left taken) a b
+
+-- how many syncs a batch takes: one for each file that is taken, and one for each that is written
+abbrev pub syncs_of : LogState → List Record → ℕ
+syncs_of l rs = let taken = length (plan_of rs l.used (capacity_in l.opening) l.rid).fresh in taken + (if l.used == capacity_in l.opening then taken else taken + 1)

@@ -21,9 +21,9 @@ ghost use Rattle.qls_log.specs.Faults.{Counts};
 ghost use Rattle.qls_log.specs.Taking.{TakesFiles, DrawsEach, MeetsEnd};
 ghost use Rattle.qls_log.specs.Standing.{files_on};
 ghost use Rattle.qls_log.specs.Appending.{IsNew, LeavesOthers};
-ghost use Rattle.qls_queue.specs.Live.{QueueThere, BeginsQueue, QueueReadsOn};
+ghost use Rattle.qls_queue.specs.Live.{IsSound, QueueThere, BeginsQueue, QueueReadsOn};
 ghost use Rattle.qls_queue.specs.Faults.{is_end, is_fault, QueueCauses};
-ghost use Rattle.qls_queue.specs.Writing.{HasWritten};
+ghost use Rattle.qls_queue.specs.Writing.{HasWritten, syncs_of};
 ghost use Rattle.qls_queue.specs.Records.{opening_of, enqueue_of, dequeue_of, end_records, ended_by, IsXid};
 
 use crate::ends::{batch_of_ends, end_all};
@@ -141,6 +141,7 @@ impl LiveQueue {
         ensures spent { result ≡ Err QueueError.Spent → MeetsEnd self.old.log.opening self.old.log.newest (length (plan_of (record_with head xid body ∷ []) self.old.log.used (capacity_in self.old.log.opening) self.old.log.rid).fresh) pool.new }
         ensures at_end { 0 < length (plan_of (record_with head xid body ∷ []) self.old.log.used (capacity_in self.old.log.opening) self.old.log.rid).fresh → MeetsEnd self.old.log.opening self.old.log.newest 1 pool.old → (result ≡ Err QueueError.Spent) ⊎ (result ≡ Err QueueError.Memory) }
         ensures cause { QueueCauses (S.faults site.old) (S.faults site.new) (N.faults serials.old) (N.faults serials.new) result }
+        ensures syncs { Counts (S.told site.old) result (syncs_of self.old.log (record_with head xid body ∷ [])) (S.syncs site.old) (S.syncs site.new) }
         ensures reads { S.reads site.new ≡ S.reads site.old }
     {
         self.ended = true;
@@ -186,6 +187,7 @@ impl LiveQueue {
         ensures spent { result ≡ Err QueueError.Spent → MeetsEnd self.old.log.opening self.old.log.newest (length (plan_of (enqueue_of (self.old.queue.last + 1) body xid ∷ []) self.old.log.used (capacity_in self.old.log.opening) self.old.log.rid).fresh) pool.new }
         ensures at_end { self.old.queue.last < 2 ^ 62 - 1 → 0 < length (plan_of (enqueue_of (self.old.queue.last + 1) body xid ∷ []) self.old.log.used (capacity_in self.old.log.opening) self.old.log.rid).fresh → MeetsEnd self.old.log.opening self.old.log.newest 1 pool.old → (result ≡ Err QueueError.Spent) ⊎ (result ≡ Err QueueError.Memory) }
         ensures cause { QueueCauses (S.faults site.old) (S.faults site.new) (N.faults serials.old) (N.faults serials.new) result }
+        ensures syncs { Counts (S.told site.old) result (syncs_of self.old.log (enqueue_of (self.old.queue.last + 1) body xid ∷ [])) (S.syncs site.old) (S.syncs site.new) }
         ensures reads { S.reads site.new ≡ S.reads site.old }
     {
         let last = self.log.rid();
@@ -231,6 +233,7 @@ impl LiveQueue {
         ensures spent { result ≡ Err QueueError.Spent → MeetsEnd self.old.log.opening self.old.log.newest (length (plan_of (dequeue_of self.old.queue.last number xid ∷ []) self.old.log.used (capacity_in self.old.log.opening) self.old.log.rid).fresh) pool.new }
         ensures at_end { take_answer (message_at self.old.queue.messages number) ≡ Ok tt → 0 < length (plan_of (dequeue_of self.old.queue.last number xid ∷ []) self.old.log.used (capacity_in self.old.log.opening) self.old.log.rid).fresh → MeetsEnd self.old.log.opening self.old.log.newest 1 pool.old → (result ≡ Err QueueError.Spent) ⊎ (result ≡ Err QueueError.Memory) }
         ensures cause { QueueCauses (S.faults site.old) (S.faults site.new) (N.faults serials.old) (N.faults serials.new) result }
+        ensures syncs { Counts (S.told site.old) result (syncs_of self.old.log (dequeue_of self.old.queue.last number xid ∷ [])) (S.syncs site.old) (S.syncs site.new) }
         ensures reads { S.reads site.new ≡ S.reads site.old }
     {
         let answer = may_take(self.tables.held().get(number));
@@ -271,6 +274,7 @@ impl LiveQueue {
         ensures spent { result ≡ Err QueueError.Spent → MeetsEnd self.old.log.opening self.old.log.newest (length (plan_of (end_records self.old.queue.last ends.now) self.old.log.used (capacity_in self.old.log.opening) self.old.log.rid).fresh) pool.new }
         ensures at_end { 0 < length (plan_of (end_records self.old.queue.last ends.now) self.old.log.used (capacity_in self.old.log.opening) self.old.log.rid).fresh → MeetsEnd self.old.log.opening self.old.log.newest 1 pool.old → (result ≡ Err QueueError.Spent) ⊎ (result ≡ Err QueueError.Memory) }
         ensures cause { QueueCauses (S.faults site.old) (S.faults site.new) (N.faults serials.old) (N.faults serials.new) result }
+        ensures syncs { Counts (S.told site.old) result (syncs_of self.old.log (end_records self.old.queue.last ends.now)) (S.syncs site.old) (S.syncs site.new) }
         ensures reads { S.reads site.new ≡ S.reads site.old }
     {
         let last = self.log.rid();
@@ -309,6 +313,7 @@ impl LiveQueue {
         requires unended { self.now.ended ≡ false }
         ensures exact { result ≡ self.now.queue.last }
         ensures fits { result < 2 ^ 62 }
+        ensures sound { IsSound self.now }
     {
         self.log.rid()
     }
@@ -318,6 +323,7 @@ impl LiveQueue {
         requires unended { self.now.ended ≡ false }
         ensures in_order { IfOk result (λ xids. IsStrictlySortedBy (slice_cmp nat_cmp) xids) }
         ensures exact { IfOk result (λ xids. (x : List ℕ) → is_listed x xids ≡ is_pending x self.now.queue) }
+        ensures xids { IfOk result (λ xids. AllByRecursion IsXid xids) }
     {
         self.tables.pending()
     }

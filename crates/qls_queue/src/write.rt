@@ -8,13 +8,13 @@ ghost use Rattle.qls_meaning.specs.Reading.{read_of};
 ghost use Rattle.qls_blocks.specs.Batching.{laid_from};
 ghost use Rattle.qls_blocks.specs.Plans.{plan_of};
 ghost use Rattle.qls_log.specs.Logs.{capacity_in};
-ghost use Rattle.qls_log.specs.Faults.{LogCauses};
+ghost use Rattle.qls_log.specs.Faults.{LogCauses, Counts};
 ghost use Rattle.qls_log.specs.Taking.{MeetsEnd};
 ghost use Rattle.qls_log.specs.Spots.{spot_of};
 ghost use Rattle.qls_log.specs.Standing.{LogThere};
 ghost use Rattle.qls_log.specs.Appending.{FollowRids, LeavesOthers};
 ghost use Rattle.qls_log.specs.Reads.{ReadsOn};
-ghost use Rattle.qls_queue.specs.Writing.{HasWritten};
+ghost use Rattle.qls_queue.specs.Writing.{HasWritten, syncs_of};
 ghost use Rattle.qls_queue.specs.Records.{read_at};
 
 use qls_blocks::Batch;
@@ -34,6 +34,7 @@ pub(crate) fn write_batch<S: Site, N: Serials>(
     batch: &Batch,
 ) -> Result<Seq<Spot>, LogError>
     requires unended { log.old.ended ≡ false }
+    requires files { 0 < length log.old.files }
     requires some { 0 < length batch.now }
     requires rids { FollowRids log.old.rid batch.now }
     requires flushed { log.old.unsynced ≡ [] }
@@ -49,6 +50,7 @@ pub(crate) fn write_batch<S: Site, N: Serials>(
     ensures spent { result ≡ Err LogError.Spent → MeetsEnd log.old.opening log.old.newest (length (plan_of batch.now log.old.used (capacity_in log.old.opening) log.old.rid).fresh) pool.new }
     ensures at_end { 0 < length (plan_of batch.now log.old.used (capacity_in log.old.opening) log.old.rid).fresh → MeetsEnd log.old.opening log.old.newest 1 pool.old → (result ≡ Err LogError.Spent) ⊎ (result ≡ Err LogError.Memory) }
     ensures cause { LogCauses (S.faults site.old) (S.faults site.new) (N.faults serials.old) (N.faults serials.new) result }
+    ensures syncs { Counts (S.told site.old) result (syncs_of log.old batch.now) (S.syncs site.old) (S.syncs site.new) }
     ensures reads { S.reads site.new ≡ S.reads site.old }
 {
     let spots = log.append(site, pool, serials, batch)?;
@@ -85,6 +87,7 @@ pub(crate) fn write_one<S: Site, N: Serials>(
     requires body { length body ≡ head.body_size }
     requires rid { head.rid ≡ rid_given log.old.rid head.kind }
     requires rid_fits { head.rid < 2 ^ 62 }
+    requires files { 0 < length log.old.files }
     requires unended { log.old.ended ≡ false }
     requires flushed { log.old.unsynced ≡ [] }
     requires there { IfSome (S.told site.old) (OnDisk (LogThere log.old)) }
@@ -100,6 +103,7 @@ pub(crate) fn write_one<S: Site, N: Serials>(
     ensures spent { result ≡ Err LogError.Spent → MeetsEnd log.old.opening log.old.newest (length (plan_of (record_with head xid body ∷ []) log.old.used (capacity_in log.old.opening) log.old.rid).fresh) pool.new }
     ensures at_end { 0 < length (plan_of (record_with head xid body ∷ []) log.old.used (capacity_in log.old.opening) log.old.rid).fresh → MeetsEnd log.old.opening log.old.newest 1 pool.old → (result ≡ Err LogError.Spent) ⊎ (result ≡ Err LogError.Memory) }
     ensures cause { LogCauses (S.faults site.old) (S.faults site.new) (N.faults serials.old) (N.faults serials.new) result }
+    ensures syncs { Counts (S.told site.old) result (syncs_of log.old (record_with head xid body ∷ [])) (S.syncs site.old) (S.syncs site.new) }
     ensures reads { S.reads site.new ≡ S.reads site.old }
 {
     let batch = batch_of(alloc, head, xid, body)?;
