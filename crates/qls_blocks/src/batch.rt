@@ -34,7 +34,7 @@ impl Model for Batch {
 }
 
 impl Batch {
-    ghost use Rattle.std.specs.Prelude.{◌≡◌, ◌+◌, ◌%◌, ◌≤◌, ◌<◌, ◌++◌, ◌∷◌, [], Some, length, slice_get, IsTrue, IfOk, IfErr};
+    ghost use Rattle.std.specs.Prelude.{◌≡◌, ◌+◌, ◌%◌, ◌≤◌, ◌<◌, ◌++◌, ◌∷◌, [], List, Some, None, length, slice_get, IsTrue, IfOk, IfErr};
     ghost use Rattle.std.specs.List.{AllByRecursion};
     ghost use Rattle.qls_shape.specs.declared.Version.TheVariants.{Two};
     ghost use Rattle.qls_record.specs.Record.{Record, is_legal, record_length};
@@ -99,6 +99,18 @@ impl Batch {
         ensures exact { result ≡ last_rid 0 self.now }
     {
         self.last_rid
+    }
+
+    /// The body of the last record, without a copy; None exactly where there is no record.
+    pub fn into_body(self) -> Option<Bytes>
+        ensures last { (rs : List Record) (r : Record) → self ≡ rs ++ r ∷ [] → result ≡ Some r.body }
+        ensures none { self ≡ [] → result ≡ None }
+    {
+        let mut entries = self.entries;
+        match entries.pop() {
+            Some(entry) => Some(entry.body),
+            None => None,
+        }
     }
 
     /// How the batch lies over files: its length in bytes with fillers, how many fillers, and what the header of each

@@ -7,3 +7,4 @@ pub mod Ordered
 pub mod Placing
 pub mod Above
 pub mod Whole
+pub mod Moves

@@ -21,6 +21,15 @@ op_by_status x rid (Going y) = if same x y then Some (Take rid) else None
 abbrev pub op_by : List ℕ → Held → Option Op
 op_by x h = op_by_status x h.rid h.status
 
+-- the record is coming or going by x
+abbrev pub is_moved : List ℕ → Status → Bool
+is_moved x Ready = false
+is_moved x (Coming y) = same x y
+is_moved x (Going y) = same x y
+
+abbrev pub moves_by : List ℕ → Held → Bool
+moves_by x h = is_moved x h.status
+
 -- the operations by x that the held records show
 abbrev pub ops_in : List ℕ → List Held → List Op
 ops_in x hs = filter_map (op_by x) hs

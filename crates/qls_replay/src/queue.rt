@@ -1,8 +1,8 @@
 // A queue's records, one after another.
 use crate::ends::end_transaction;
-use crate::records::{put, take};
+use crate::records::{held_copy, held_whole, put, take};
 use qls_enqmap::EnqMap;
-use qls_model::NoMemory;
+use qls_model::{NoMemory, Seq, Xid};
 use qls_record::{Got, Kind};
 use qls_txnmap::TxnMap;
 use std::alloc::Global;
@@ -33,8 +33,13 @@ impl QueueReplay {
     ghost use Rattle.qls_txnmap.specs.Pending.{ops_of};
     ghost use Rattle.qls_meaning.specs.Reading.{read_of};
     ghost use Rattle.qls_meaning.specs.Replay.{after_record};
-    ghost use Rattle.qls_replay.specs.Held.{held_after, messages_of, IsAbove};
-    ghost use Rattle.qls_replay.specs.Ops.{Agrees};
+    ghost use Rattle.qls_replay.specs.Held.{held_after, ended_held, messages_of, IsAbove};
+    ghost use Rattle.qls_replay.specs.Ops.{Agrees, moves_by, verdict_if};
+    ghost use Rattle.std.specs.List.{list_any};
+    ghost use Rattle.std.specs.List.Sorted.{IsStrictlySortedBy};
+    ghost use Rattle.std.specs.Ordering.{nat_cmp};
+    ghost use Rattle.std.specs.Cmp.Lexicographic.{slice_cmp};
+    ghost use Rattle.qls_model.specs.Bytes.{is_listed};
 
     /// No record yet.
     pub fn new(alloc: Global) -> QueueReplay
@@ -58,7 +63,7 @@ impl QueueReplay {
         ensures refused { IfErr result (λ _. self.new ≡ self.old) }
     {
         match got.head.kind {
-            Kind::Enqueue => put(&mut self.held, &mut self.txns, got),
+            Kind::Enqueue => put(&mut self.held, &mut self.txns, held_copy(got)?, got.xid),
             Kind::Dequeue => take(&mut self.held, &mut self.txns, got),
             Kind::Commit => {
                 end_transaction(&mut self.held, &mut self.txns, &got.xid, true);
@@ -70,6 +75,45 @@ impl QueueReplay {
             }
             Kind::Filler => Ok(()),
         }
+    }
+
+    /// One more record, as [`QueueReplay::apply`] has it, whose body is held without a copy. Where memory is wanting the
+    /// record is dropped, and nothing changes.
+    pub fn take_in(&mut self, got: Got) -> Result<(), NoMemory>
+        requires above { IsAbove got.head.kind got.head.rid self.old.held }
+        ensures held { IfOk result (λ _. self.new.held ≡ held_after got.head.kind (read_of got) self.old.held) }
+        ensures refused { IfErr result (λ _. self.new ≡ self.old) }
+    {
+        match got.head.kind {
+            Kind::Enqueue => {
+                let xid = got.xid;
+                put(&mut self.held, &mut self.txns, held_whole(got), xid)
+            }
+            _ => self.apply(&got),
+        }
+    }
+
+    /// Ends a transaction, as its commit or abort does. It takes no memory.
+    pub fn end(&mut self, xid: &Xid, commit: bool)
+        ensures held { self.new.held ≡ ended_held xid.now (verdict_if commit) self.old.held }
+    {
+        end_transaction(&mut self.held, &mut self.txns, xid, commit);
+    }
+
+    /// The messages that are held.
+    pub fn held(&self) -> &EnqMap
+        ensures same { result.now ≡ self.now.held }
+        ensures rising { RidsRise self.now.held }
+    {
+        &self.held
+    }
+
+    /// The xids by which a message is coming or going, in byte order and each once.
+    pub fn pending(&self) -> Result<Seq<Xid>, NoMemory>
+        ensures in_order { IfOk result (λ xids. IsStrictlySortedBy (slice_cmp nat_cmp) xids) }
+        ensures exact { IfOk result (λ xids. (x : List ℕ) → is_listed x xids ≡ list_any (moves_by x) self.now.held) }
+    {
+        self.txns.pending()
     }
 
     /// The messages that are held, and the operations of pending transactions: just those that coming and going

@@ -24,8 +24,8 @@ fn coming(xid: Xid) -> Status
     }
 }
 
-// The message of an enqueue, with its files.
-fn held_record(got: &Got) -> Result<Held, NoMemory>
+// The message of an enqueue, with its files and a copy of its body.
+pub(crate) fn held_copy(got: &Got) -> Result<Held, NoMemory>
     ensures held { IfOk result (λ h. h ≡ held_of (read_of got.now)) }
 {
     Ok(Held {
@@ -37,24 +37,43 @@ fn held_record(got: &Got) -> Result<Held, NoMemory>
     })
 }
 
-// Holds the message of an enqueue.
-pub(crate) fn put(held: &mut EnqMap, txns: &mut TxnMap, got: &Got) -> Result<(), NoMemory>
+// The message of an enqueue, with its files and its body.
+pub(crate) fn held_whole(got: Got) -> Held
+    ensures held { result ≡ held_of (read_of got) }
+{
+    Held {
+        rid: got.head.rid,
+        status: coming(got.xid),
+        body: got.body,
+        file: got.file,
+        end_file: got.end_file,
+    }
+}
+
+// Holds the message of an enqueue that has this xid.
+pub(crate) fn put(
+    held: &mut EnqMap,
+    txns: &mut TxnMap,
+    message: Held,
+    xid: Xid,
+) -> Result<(), NoMemory>
     requires sound { IsSound held.old txns.old }
-    requires above { AllBelow got.now.head.rid held.old }
-    ensures put { IfOk result (λ _. held.new ≡ held.old ++ held_of (read_of got.now) ∷ []) }
+    requires above { AllBelow message.rid held.old }
+    requires status { message.status ≡ status_of (xid_in xid) }
+    ensures put { IfOk result (λ _. held.new ≡ held.old ++ message ∷ []) }
     ensures sound { IsSound held.new txns.new }
     ensures refused { IfErr result (λ _. held.new ≡ held.old) }
     ensures txns_refused { IfErr result (λ _. txns.new ≡ txns.old) }
 {
-    let record = held_record(got)?;
-    held.insert(record)?;
-    if got.xid.as_slice().is_empty() {
+    let rid = message.rid;
+    held.insert(message)?;
+    if xid.as_slice().is_empty() {
         return Ok(());
     }
-    match txns.add(got.xid, Op::Put(got.head.rid)) {
+    match txns.add(xid, Op::Put(rid)) {
         Ok(()) => Ok(()),
         Err(refused) => {
-            let _taken_back = held.remove(got.head.rid);
+            let _taken_back = held.remove(rid);
             Err(refused)
         }
     }

@@ -1,0 +1,7 @@
+pub mod Xids
+pub mod Writes
+pub mod Replays
+pub mod Says
+pub mod Applied
+pub mod Finds
+pub mod Ended

@@ -1,0 +1,5 @@
+pub mod Live
+pub mod Faults
+pub mod Writing
+pub mod Records
+pub mod Answers

@@ -1,0 +1,82 @@
+// The heads of the records that a queue writes, and which messages are taken.
+ghost use Rattle.std.specs.Prelude.{◌≡◌, ◌≤◌, ◌<◌, ◌^◌, false, length, option_map, option_copied, IsTrue};
+ghost use Rattle.qls_record.specs.Head.{is_legal_head};
+ghost use Rattle.qls_replay.specs.Held.{message_of};
+ghost use Rattle.qls_queue.specs.Answers.{take_answer, BodyAnswer};
+ghost use Rattle.qls_queue.specs.Records.{xid_of};
+
+use crate::fault::QueueError;
+use qls_enqmap::Held;
+use qls_model::{Bytes, Status, Xid};
+use qls_record::{Head, Kind};
+
+/// The xid as a record has it: empty where there is none.
+pub(crate) fn xid_or_none(xid: Option<Xid>) -> Xid
+    ensures exact { result ≡ xid_of xid }
+{
+    match xid {
+        Some(xid) => xid,
+        None => Xid::new(&[]).unwrap(),
+    }
+}
+
+/// The head of the enqueue of a message.
+pub(crate) fn enqueue(number: u64, xid: &Xid, body: &Bytes) -> Head
+    requires number { number < 2 ^ 62 }
+    requires xid { length xid.now ≤ 128 }
+    requires body { length body.now ≤ 1048576 }
+    ensures legal { IsTrue (is_legal_head result) }
+    ensures xid { length xid.now ≡ result.xid_size }
+    ensures body { length body.now ≡ result.body_size }
+    ensures exact { result ≡ record { kind = Kind.Enqueue; flagged = false; rid = number; target = 0; xid_size = length xid.now; body_size = length body.now } }
+{
+    Head {
+        kind: Kind::Enqueue,
+        flagged: false,
+        rid: number,
+        target: 0,
+        xid_size: xid.as_slice().len() as u64,
+        body_size: body.as_slice().len() as u64,
+    }
+}
+
+/// The head of the dequeue of a message, where the rid in force is `last`.
+pub(crate) fn dequeue(last: u64, number: u64, xid: &Xid) -> Head
+    requires last { last < 2 ^ 62 }
+    requires xid { length xid.now ≤ 128 }
+    ensures legal { IsTrue (is_legal_head result) }
+    ensures xid { length xid.now ≡ result.xid_size }
+    ensures exact { result ≡ record { kind = Kind.Dequeue; flagged = false; rid = last; target = number; xid_size = length xid.now; body_size = 0 } }
+{
+    Head {
+        kind: Kind::Dequeue,
+        flagged: false,
+        rid: last,
+        target: number,
+        xid_size: xid.as_slice().len() as u64,
+        body_size: 0,
+    }
+}
+
+/// Whether a message that is found may be taken: only a ready one is.
+pub(crate) fn may_take(held: Option<&Held>) -> Result<(), QueueError>
+    ensures answer { result ≡ take_answer (option_map message_of (option_copied held.entry)) }
+{
+    match held {
+        None => Err(QueueError::Unknown),
+        Some(held) => match held.status {
+            Status::Ready => Ok(()),
+            _ => Err(QueueError::Locked),
+        },
+    }
+}
+
+/// A copy of the body of a message that is found.
+pub(crate) fn body_copy(held: Option<&Held>) -> Result<Bytes, QueueError>
+    ensures answer { BodyAnswer (option_map (λ h. h.body) (option_copied held.entry)) result }
+{
+    match held {
+        None => Err(QueueError::Unknown),
+        Some(held) => Ok(held.body.copy()?),
+    }
+}

@@ -1,0 +1,338 @@
+// A queue held live.
+ghost use Rattle.std.specs.Prelude.{◌≡◌, ◌⊎◌, ℕ, ◌<◌, ◌≤◌, ◌+◌, ◌-◌, ◌^◌, List, [], ◌∷◌, Option, Some, None, Ok, Err, IfOk, IfErr, IfSome, IsTrue, length, slice_get, option_map, false, true};
+ghost use Rattle.qls_site.specs.Content.{Tells};
+ghost use Rattle.qls_record.specs.Record.{rid_given};
+ghost use Rattle.qls_record.specs.Head.{is_legal_head, record_with};
+ghost use Rattle.qls_pool.specs.Pools.{IsSpent};
+ghost use Rattle.qls_pool.specs.Files.{IsPoolOf, IsWholePool, OnDisk};
+ghost use Rattle.qls_pool.specs.Discipline.{Orderly};
+ghost use Rattle.qls_meaning.specs.Replay.{after_record};
+ghost use Rattle.std.specs.List.{AllByRecursion};
+ghost use Rattle.std.specs.List.Sorted.{IsStrictlySortedBy};
+ghost use Rattle.std.specs.Ordering.{nat_cmp};
+ghost use Rattle.std.specs.Cmp.Lexicographic.{slice_cmp};
+ghost use Rattle.qls_model.specs.Bytes.{is_listed};
+ghost use Rattle.qls_model.specs.Messages.{with_message, message_at};
+ghost use Rattle.qls_model.specs.Machine.{put_message, taken};
+ghost use Rattle.qls_queue.specs.Answers.{take_answer, BodyAnswer, body_at, numbered, is_pending};
+ghost use Rattle.qls_blocks.specs.Plans.{plan_of};
+ghost use Rattle.qls_log.specs.Logs.{IsLegalOpening, capacity_in};
+ghost use Rattle.qls_log.specs.Faults.{Counts};
+ghost use Rattle.qls_log.specs.Taking.{TakesFiles, DrawsEach, MeetsEnd};
+ghost use Rattle.qls_log.specs.Standing.{files_on};
+ghost use Rattle.qls_log.specs.Appending.{IsNew, LeavesOthers};
+ghost use Rattle.qls_queue.specs.Live.{IsSound, QueueThere, BeginsQueue, QueueReadsOn};
+ghost use Rattle.qls_queue.specs.Faults.{is_end, is_fault, QueueCauses};
+ghost use Rattle.qls_queue.specs.Writing.{HasWritten, syncs_of};
+ghost use Rattle.qls_queue.specs.Records.{opening_of, enqueue_of, dequeue_of, end_records, ended_by, IsXid};
+
+use crate::ends::{batch_of_ends, end_all};
+use crate::fault::QueueError;
+use crate::heads::{body_copy, dequeue, enqueue, may_take, xid_or_none};
+use crate::write::{write_batch, write_one};
+use qls_decide::End;
+use qls_filehdr::JournalKind;
+use qls_log::Log;
+use qls_model::{Bytes, Name, NoMemory, PoolId, Seq, Status, Xid};
+use qls_pool::Pool;
+use qls_record::Head;
+use qls_replay::QueueReplay;
+use qls_site::{Serials, Site};
+use std::alloc::Global;
+use std::marker::Model;
+
+/// The greatest number of a message.
+pub(crate) const LAST_NUMBER: u64 = (1 << 62) - 1;
+
+/// A queue, held live over its log: what its journal's records make is the queue, before and after each call.
+///
+/// Between calls all that was written is flushed. A call that writes and answers Failed, Draw, Spent or Memory ends the
+/// queue: the disk is in one of that call's moments then, and no other call may follow.
+#[derive(Drop)]
+pub struct LiveQueue {
+    alloc: Global,
+    log: Log,
+    /// The messages, each in the files of its record, and the operations of pending transactions.
+    tables: QueueReplay,
+    ended: bool,
+}
+
+impl Model for LiveQueue {
+    ghost use Rattle.std.specs.Prelude.{◌≡◌, false};
+    ghost use Rattle.qls_queue.specs.Live.{LiveState, live, IsSound};
+
+    ghost Value = { LiveState };
+
+    ghost view = { λ q. live q.log q.tables.held q.ended };
+
+    ghost invariant = { λ q. q.ended ≡ false → IsSound (live q.log q.tables.held q.ended) };
+}
+
+impl LiveQueue {
+    /// Makes a new queue of this name, whose files belong to the pool `home`: its last number is 0 and it has no message.
+    /// Its journal has one file, with number and epoch 1, and says the queue where every file that came into use was
+    /// unmarked. The name is within its limits.
+    ///
+    /// Where told, the site has no file in use of that queue, and the pool is the site's, with no file out. After an
+    /// error the site and the pool stand as the calls up to it left them.
+    pub fn create<S: Site, N: Serials>(
+        alloc: Global,
+        site: &mut S,
+        pool: &mut Pool,
+        serials: &mut N,
+        name: Name,
+        home: PoolId,
+    ) -> Result<LiveQueue, QueueError>
+        requires legal { IsLegalOpening (opening_of name home) }
+        requires new { IfSome (S.told site.old) (OnDisk (λ d. files_on (opening_of name home) d ≡ [])) }
+        requires pool { IfSome (S.told site.old) (OnDisk (IsWholePool pool.old)) }
+        ensures queue { IfOk result (λ q. q.queue ≡ record { name = name; last = 0; messages = [] }) }
+        ensures open { IfOk result (λ q. q.ended ≡ false) }
+        ensures log { IfOk result (λ q. IsNew (opening_of name home) q.log) }
+        ensures told { IfOk result (λ q. Tells (TakesFiles home pool.old pool.new q.log.files) (S.told site.old) (S.told site.new)) }
+        ensures drawn { IfOk result (λ q. DrawsEach q.log.files (N.drawn serials.old) (N.drawn serials.new)) }
+        ensures there { IfOk result (λ q. IfSome (S.told site.new) (OnDisk (QueueThere q))) }
+        ensures pool { IfOk result (λ _. IfSome (S.told site.new) (OnDisk (IsWholePool pool.new))) }
+        ensures reading { IfOk result (λ q. Tells (BeginsQueue q) (S.told site.old) (S.told site.new)) }
+        ensures others { IfOk result (λ q. Tells (LeavesOthers q.log.files) (S.told site.old) (S.told site.new)) }
+        ensures refusals { IfErr result (λ e. is_fault e ≡ true) }
+        ensures spent { result ≡ Err QueueError.Spent → IsSpent home pool.new }
+        ensures at_end { IsSpent home pool.old → (result ≡ Err QueueError.Spent) ⊎ (result ≡ Err QueueError.Memory) }
+        ensures cause { QueueCauses (S.faults site.old) (S.faults site.new) (N.faults serials.old) (N.faults serials.new) result }
+        ensures syncs { Counts (S.told site.old) result 1 (S.syncs site.old) (S.syncs site.new) }
+        ensures reads { S.reads site.new ≡ S.reads site.old }
+        ensures orderly { Orderly (IsPoolOf pool.old []) result (S.told site.old) (S.told site.new) }
+    {
+        let log = Log::create(alloc, site, pool, serials, JournalKind::Queue, name, home)?;
+        Ok(LiveQueue {
+            alloc,
+            log,
+            tables: QueueReplay::new(alloc),
+            ended: false,
+        })
+    }
+
+    /// Writes one record, and applies it to the queue.
+    fn write_record<S: Site, N: Serials>(
+        &mut self,
+        site: &mut S,
+        pool: &mut Pool,
+        serials: &mut N,
+        head: Head,
+        xid: Xid,
+        body: Bytes,
+    ) -> Result<(), QueueError>
+        requires legal { IsTrue (is_legal_head head) }
+        requires xid { length xid ≡ head.xid_size }
+        requires body { length body ≡ head.body_size }
+        requires unended { self.old.ended ≡ false }
+        requires rid { head.rid ≡ rid_given self.old.queue.last head.kind }
+        requires rid_fits { head.rid < 2 ^ 62 }
+        requires there { IfSome (S.told site.old) (OnDisk (QueueThere self.old)) }
+        requires pool { IfSome (S.told site.old) (OnDisk (IsPoolOf pool.old [])) }
+        ensures ended { self.new.ended ≡ is_end result }
+        ensures refusals { IfErr result (λ e. is_fault e ≡ true) }
+        ensures queue { IfOk result (λ _. self.new.queue ≡ after_record head.kind (record_with head xid body) self.old.queue) }
+        ensures written { IfOk result (λ _. HasWritten (record_with head xid body ∷ []) self.old.log self.new.log pool.old pool.new (N.drawn serials.old) (N.drawn serials.new) (S.told site.old) (S.told site.new)) }
+        ensures there { IfOk result (λ _. IfSome (S.told site.new) (OnDisk (QueueThere self.new))) }
+        ensures pool { IfOk result (λ _. IfSome (S.told site.new) (OnDisk (IsPoolOf pool.new []))) }
+        ensures reading { IfOk result (λ _. Tells (QueueReadsOn self.old self.new) (S.told site.old) (S.told site.new)) }
+        ensures others { IfOk result (λ _. Tells (LeavesOthers self.new.log.files) (S.told site.old) (S.told site.new)) }
+        ensures spent { result ≡ Err QueueError.Spent → MeetsEnd self.old.log.opening self.old.log.newest (length (plan_of (record_with head xid body ∷ []) self.old.log.used (capacity_in self.old.log.opening) self.old.log.rid).fresh) pool.new }
+        ensures at_end { 0 < length (plan_of (record_with head xid body ∷ []) self.old.log.used (capacity_in self.old.log.opening) self.old.log.rid).fresh → MeetsEnd self.old.log.opening self.old.log.newest 1 pool.old → (result ≡ Err QueueError.Spent) ⊎ (result ≡ Err QueueError.Memory) }
+        ensures cause { QueueCauses (S.faults site.old) (S.faults site.new) (N.faults serials.old) (N.faults serials.new) result }
+        ensures syncs { Counts (S.told site.old) result (syncs_of self.old.log (record_with head xid body ∷ [])) (S.syncs site.old) (S.syncs site.new) }
+        ensures reads { S.reads site.new ≡ S.reads site.old }
+    {
+        self.ended = true;
+        let log = &mut self.log;
+        let got = write_one(self.alloc, log, site, pool, serials, head, xid, body)?;
+        self.tables.take_in(got)?;
+        self.ended = false;
+        Ok(())
+    }
+
+    /// Puts a message, by the transaction where there is one, and answers its number: one more than the last one. It
+    /// appends one enqueue, flushes it, and then holds the message.
+    ///
+    /// Numbers exactly where the last number is 2^62 - 1; then nothing changes and no call is made. The body has at most
+    /// 1,048,576 bytes and the xid 1 to 128. The queue isn't ended; where told, the site has its journal as its last call
+    /// left it, and the pool is the site's, with no file out. After an error that is no refusal the queue is ended.
+    pub fn put<S: Site, N: Serials>(
+        &mut self,
+        site: &mut S,
+        pool: &mut Pool,
+        serials: &mut N,
+        body: Bytes,
+        xid: Option<Xid>,
+    ) -> Result<u64, QueueError>
+        requires unended { self.old.ended ≡ false }
+        requires body { length body ≤ 1048576 }
+        requires xid { IfSome xid IsXid }
+        requires there { IfSome (S.told site.old) (OnDisk (QueueThere self.old)) }
+        requires pool { IfSome (S.told site.old) (OnDisk (IsPoolOf pool.old [])) }
+        ensures ended { self.new.ended ≡ is_end result }
+        ensures number { IfOk result (λ number. number ≡ self.old.queue.last + 1) }
+        ensures queue { IfOk result (λ number. self.new.queue ≡ with_message (put_message number body xid) self.old.queue) }
+        ensures written { IfOk result (λ number. HasWritten (enqueue_of number body xid ∷ []) self.old.log self.new.log pool.old pool.new (N.drawn serials.old) (N.drawn serials.new) (S.told site.old) (S.told site.new)) }
+        ensures there { IfOk result (λ _. IfSome (S.told site.new) (OnDisk (QueueThere self.new))) }
+        ensures pool { IfOk result (λ _. IfSome (S.told site.new) (OnDisk (IsPoolOf pool.new []))) }
+        ensures reading { IfOk result (λ _. Tells (QueueReadsOn self.old self.new) (S.told site.old) (S.told site.new)) }
+        ensures others { IfOk result (λ _. Tells (LeavesOthers self.new.log.files) (S.told site.old) (S.told site.new)) }
+        ensures numbers { result ≡ Err QueueError.Numbers → self.old.queue.last ≡ 2 ^ 62 - 1 }
+        ensures at_last { self.old.queue.last ≡ 2 ^ 62 - 1 → result ≡ Err QueueError.Numbers }
+        ensures refused { result ≡ Err QueueError.Numbers → self.new ≡ self.old }
+        ensures no_call { result ≡ Err QueueError.Numbers → (site.new ≡ site.old) × (pool.new ≡ pool.old) × (serials.new ≡ serials.old) }
+        ensures no_other { (result ≡ Err QueueError.Unknown → ⊥) × (result ≡ Err QueueError.Locked → ⊥) }
+        ensures spent { result ≡ Err QueueError.Spent → MeetsEnd self.old.log.opening self.old.log.newest (length (plan_of (enqueue_of (self.old.queue.last + 1) body xid ∷ []) self.old.log.used (capacity_in self.old.log.opening) self.old.log.rid).fresh) pool.new }
+        ensures at_end { self.old.queue.last < 2 ^ 62 - 1 → 0 < length (plan_of (enqueue_of (self.old.queue.last + 1) body xid ∷ []) self.old.log.used (capacity_in self.old.log.opening) self.old.log.rid).fresh → MeetsEnd self.old.log.opening self.old.log.newest 1 pool.old → (result ≡ Err QueueError.Spent) ⊎ (result ≡ Err QueueError.Memory) }
+        ensures cause { QueueCauses (S.faults site.old) (S.faults site.new) (N.faults serials.old) (N.faults serials.new) result }
+        ensures syncs { Counts (S.told site.old) result (syncs_of self.old.log (enqueue_of (self.old.queue.last + 1) body xid ∷ [])) (S.syncs site.old) (S.syncs site.new) }
+        ensures reads { S.reads site.new ≡ S.reads site.old }
+    {
+        let last = self.log.rid();
+        if last == LAST_NUMBER {
+            return Err(QueueError::Numbers);
+        }
+        let xid = xid_or_none(xid);
+        let head = enqueue(last + 1, &xid, &body);
+        self.write_record(site, pool, serials, head, xid, body)?;
+        Ok(last + 1)
+    }
+
+    /// Takes a message, by the transaction where there is one: it goes, or it is going by the transaction. It appends one
+    /// dequeue, flushes it, and then lets the message go.
+    ///
+    /// Unknown exactly where no message has that number, and Locked exactly where the message isn't ready; then nothing
+    /// changes and no call is made. The xid has 1 to 128 bytes. The queue isn't ended; where told, the site has its
+    /// journal as its last call left it, and the pool is the site's, with no file out. After an error that is no refusal
+    /// the queue is ended.
+    pub fn take<S: Site, N: Serials>(
+        &mut self,
+        site: &mut S,
+        pool: &mut Pool,
+        serials: &mut N,
+        number: u64,
+        xid: Option<Xid>,
+    ) -> Result<(), QueueError>
+        requires unended { self.old.ended ≡ false }
+        requires xid { IfSome xid IsXid }
+        requires there { IfSome (S.told site.old) (OnDisk (QueueThere self.old)) }
+        requires pool { IfSome (S.told site.old) (OnDisk (IsPoolOf pool.old [])) }
+        ensures ended { self.new.ended ≡ is_end result }
+        ensures queue { IfOk result (λ _. self.new.queue ≡ taken number xid self.old.queue) }
+        ensures written { IfOk result (λ _. HasWritten (dequeue_of self.old.queue.last number xid ∷ []) self.old.log self.new.log pool.old pool.new (N.drawn serials.old) (N.drawn serials.new) (S.told site.old) (S.told site.new)) }
+        ensures there { IfOk result (λ _. IfSome (S.told site.new) (OnDisk (QueueThere self.new))) }
+        ensures pool { IfOk result (λ _. IfSome (S.told site.new) (OnDisk (IsPoolOf pool.new []))) }
+        ensures reading { IfOk result (λ _. Tells (QueueReadsOn self.old self.new) (S.told site.old) (S.told site.new)) }
+        ensures others { IfOk result (λ _. Tells (LeavesOthers self.new.log.files) (S.told site.old) (S.told site.new)) }
+        ensures refusals { (e : QueueError) → take_answer (message_at self.old.queue.messages number) ≡ Err e → result ≡ Err e }
+        ensures only { IfErr result (λ e. is_fault e ≡ false → take_answer (message_at self.old.queue.messages number) ≡ Err e) }
+        ensures refused { IfErr result (λ e. is_fault e ≡ false → self.new ≡ self.old) }
+        ensures no_call { IfErr result (λ e. is_fault e ≡ false → (site.new ≡ site.old) × (pool.new ≡ pool.old) × (serials.new ≡ serials.old)) }
+        ensures spent { result ≡ Err QueueError.Spent → MeetsEnd self.old.log.opening self.old.log.newest (length (plan_of (dequeue_of self.old.queue.last number xid ∷ []) self.old.log.used (capacity_in self.old.log.opening) self.old.log.rid).fresh) pool.new }
+        ensures at_end { take_answer (message_at self.old.queue.messages number) ≡ Ok tt → 0 < length (plan_of (dequeue_of self.old.queue.last number xid ∷ []) self.old.log.used (capacity_in self.old.log.opening) self.old.log.rid).fresh → MeetsEnd self.old.log.opening self.old.log.newest 1 pool.old → (result ≡ Err QueueError.Spent) ⊎ (result ≡ Err QueueError.Memory) }
+        ensures cause { QueueCauses (S.faults site.old) (S.faults site.new) (N.faults serials.old) (N.faults serials.new) result }
+        ensures syncs { Counts (S.told site.old) result (syncs_of self.old.log (dequeue_of self.old.queue.last number xid ∷ [])) (S.syncs site.old) (S.syncs site.new) }
+        ensures reads { S.reads site.new ≡ S.reads site.old }
+    {
+        let answer = may_take(self.tables.held().get(number));
+        if answer.is_err() {
+            return answer;
+        }
+        let xid = xid_or_none(xid);
+        let head = dequeue(self.log.rid(), number, &xid);
+        let body = Bytes::from_vec(Vec::new(self.alloc));
+        self.write_record(site, pool, serials, head, xid, body)
+    }
+
+    /// Ends transactions, in order: each as a commit or an abort of its xid does. It appends one batch with a record for
+    /// each end, flushes it, and then ends them in the queue. An end whose xid isn't pending changes nothing.
+    ///
+    /// There is at least one end, and each xid has 1 to 128 bytes. The queue isn't ended; where told, the site has its
+    /// journal as its last call left it, and the pool is the site's, with no file out. After an error the queue is ended.
+    pub fn finish<S: Site, N: Serials>(
+        &mut self,
+        site: &mut S,
+        pool: &mut Pool,
+        serials: &mut N,
+        ends: &Seq<End>,
+    ) -> Result<(), QueueError>
+        requires unended { self.old.ended ≡ false }
+        requires some { 0 < length ends.now }
+        requires xids { AllByRecursion (λ e. IsXid e.xid) ends.now }
+        requires there { IfSome (S.told site.old) (OnDisk (QueueThere self.old)) }
+        requires pool { IfSome (S.told site.old) (OnDisk (IsPoolOf pool.old [])) }
+        ensures ended { self.new.ended ≡ is_end result }
+        ensures refusals { IfErr result (λ e. is_fault e ≡ true) }
+        ensures queue { IfOk result (λ _. self.new.queue ≡ ended_by ends.now self.old.queue) }
+        ensures written { IfOk result (λ _. HasWritten (end_records self.old.queue.last ends.now) self.old.log self.new.log pool.old pool.new (N.drawn serials.old) (N.drawn serials.new) (S.told site.old) (S.told site.new)) }
+        ensures there { IfOk result (λ _. IfSome (S.told site.new) (OnDisk (QueueThere self.new))) }
+        ensures pool { IfOk result (λ _. IfSome (S.told site.new) (OnDisk (IsPoolOf pool.new []))) }
+        ensures reading { IfOk result (λ _. Tells (QueueReadsOn self.old self.new) (S.told site.old) (S.told site.new)) }
+        ensures others { IfOk result (λ _. Tells (LeavesOthers self.new.log.files) (S.told site.old) (S.told site.new)) }
+        ensures spent { result ≡ Err QueueError.Spent → MeetsEnd self.old.log.opening self.old.log.newest (length (plan_of (end_records self.old.queue.last ends.now) self.old.log.used (capacity_in self.old.log.opening) self.old.log.rid).fresh) pool.new }
+        ensures at_end { 0 < length (plan_of (end_records self.old.queue.last ends.now) self.old.log.used (capacity_in self.old.log.opening) self.old.log.rid).fresh → MeetsEnd self.old.log.opening self.old.log.newest 1 pool.old → (result ≡ Err QueueError.Spent) ⊎ (result ≡ Err QueueError.Memory) }
+        ensures cause { QueueCauses (S.faults site.old) (S.faults site.new) (N.faults serials.old) (N.faults serials.new) result }
+        ensures syncs { Counts (S.told site.old) result (syncs_of self.old.log (end_records self.old.queue.last ends.now)) (S.syncs site.old) (S.syncs site.new) }
+        ensures reads { S.reads site.new ≡ S.reads site.old }
+    {
+        let last = self.log.rid();
+        self.ended = true;
+        let ends = ends.as_slice();
+        let batch = batch_of_ends(self.alloc, last, ends)?;
+        let _spots = write_batch(&mut self.log, site, pool, serials, &batch)?;
+        end_all(&mut self.tables, ends);
+        self.ended = false;
+        Ok(())
+    }
+
+    /// A copy of the body of the message of that number. It makes no call on the site and changes nothing.
+    ///
+    /// Unknown exactly where no message has that number. The queue isn't ended.
+    pub fn body<S: Site>(&mut self, site: &mut S, number: u64) -> Result<Bytes, QueueError>
+        requires unended { self.old.ended ≡ false }
+        ensures answer { BodyAnswer (body_at self.old.queue number) result }
+        ensures same { self.new ≡ self.old }
+        ensures no_call { site.new ≡ site.old }
+    {
+        body_copy(self.tables.held().get(number))
+    }
+
+    /// The number and the status of the message at a place by number, counted from 0; None exactly where there is none.
+    pub fn message_at(&self, at: usize) -> Option<(u64, Status)>
+        requires unended { self.now.ended ≡ false }
+        ensures exact { result ≡ option_map numbered (slice_get self.now.queue.messages at) }
+    {
+        let held = self.tables.held().at(at)?;
+        Some((held.rid, held.status))
+    }
+
+    /// The last number that the queue gave, 0 where it gave none. It is below 2^62.
+    pub fn last(&self) -> u64
+        requires unended { self.now.ended ≡ false }
+        ensures exact { result ≡ self.now.queue.last }
+        ensures fits { result < 2 ^ 62 }
+        ensures sound { IsSound self.now }
+    {
+        self.log.rid()
+    }
+
+    /// The xids by which a message is coming or going, in byte order and each once.
+    pub fn pending(&self) -> Result<Seq<Xid>, NoMemory>
+        requires unended { self.now.ended ≡ false }
+        ensures in_order { IfOk result (λ xids. IsStrictlySortedBy (slice_cmp nat_cmp) xids) }
+        ensures exact { IfOk result (λ xids. (x : List ℕ) → is_listed x xids ≡ is_pending x self.now.queue) }
+        ensures xids { IfOk result (λ xids. AllByRecursion IsXid xids) }
+    {
+        self.tables.pending()
+    }
+
+    /// Whether the queue is ended: a call on it that may write answered an error that is no refusal. No other call may
+    /// follow then.
+    pub fn is_ended(&self) -> bool
+        ensures exact { result ≡ self.now.ended }
+    {
+        self.ended
+    }
+}
