@@ -147,7 +147,7 @@ all_numbered P f (g ∷ fs) p h =
       | false ↦ (h.0, all_numbered P f fs p h.1)
     ]
 
-all_by_number : (P : Headed → Type 0) (fs : List Headed) → AllByRecursion P fs → AllByRecursion P (by_number fs)
+pub all_by_number : (P : Headed → Type 0) (fs : List Headed) → AllByRecursion P fs → AllByRecursion P (by_number fs)
 all_by_number P [] h = tt
 all_by_number P (f ∷ fs) h = all_numbered P f (by_number fs) h.0 (all_by_number P fs h.1)
 

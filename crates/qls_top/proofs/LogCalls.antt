@@ -123,7 +123,7 @@ appended_blocks : (cap k newest used next size : ℕ) → next + cap * k ≡ use
 appended_blocks cap k newest used next size h = grind (arith, h)
 
 pub sound_again : (l : LogState) → IsSound l → IsSound (record l { unsynced = [] })
-sound_again l s = record { opening = s.opening; own = s.own; legal = s.legal; some = s.some; few = s.few; numbers = s.numbers; newest = s.newest; used = s.used; rid = s.rid }
+sound_again l s = record { opening = s.opening; own = s.own; legal = s.legal; some = s.some; few = s.few; numbers = s.numbers; newest = s.newest; used = s.used; rid = s.rid; unsynced = tt }
 
 pub has_written : (m : Message) (old mid l : LogState) (rs : List Record) (taken : List HeadedFile) → OneRecord m rs → HasAppended rs old mid taken → l ≡ record mid { unsynced = [] } → IsSound l → HasWritten m old l
 has_written m old mid l rs taken one h is sound = record {
