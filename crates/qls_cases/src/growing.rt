@@ -56,13 +56,18 @@ fn check_header(
         (40, file as u64 + 1),
         (48, 1),
     ] {
-        assert_eq!(rt; number_at(files, file, at), Some(wanted), "file {file} at {at}");
+        assert_eq!(rt;
+            number_at(files, file, at),
+            Some(wanted),
+            "file {file} at {at}"
+        );
     }
     Ok(())
 }
 
 // The magic of an enqueue, and of a filler.
 const ENQUEUE: u64 = 0x6553_4c51;
+
 const FILLER: u64 = 0x7853_4c51;
 
 // A record of this kind stands there, with the serial of the file where it starts and this rid.
@@ -74,9 +79,21 @@ fn check_record(
     magic: u64,
     rid: u64,
 ) {
-    assert_eq!(rt; magic_at(files, file, at), Some(magic), "file {file} at {at}");
-    assert_eq!(rt; number_at(files, file, at + 8), Some(file as u64 + 7), "file {file} at {at}");
-    assert_eq!(rt; number_at(files, file, at + 16), Some(rid), "file {file} at {at}");
+    assert_eq!(rt;
+        magic_at(files, file, at),
+        Some(magic),
+        "file {file} at {at}"
+    );
+    assert_eq!(rt;
+        number_at(files, file, at + 8),
+        Some(file as u64 + 7),
+        "file {file} at {at}"
+    );
+    assert_eq!(rt;
+        number_at(files, file, at + 16),
+        Some(rid),
+        "file {file} at {at}"
+    );
 }
 
 // Runs the puts over files of 4 KiB, and looks at what was answered.
@@ -176,7 +193,13 @@ fn no_file_for_the_rest_of_a_put_ends_a_run(rt: HostRuntime) -> Result<(), Fail>
     assert_eq!(rt; (five.id, five.place), (5, Place::InUse));
     assert_eq!(rt; (six.id, six.place), (6, Place::InUse));
     // nothing was written behind its header
-    assert!(rt; six.bytes.as_slice().iter().skip(4_096).all(|byte| *byte == 0));
+    assert!(rt;
+        six.bytes
+            .as_slice()
+            .iter()
+            .skip(4_096)
+            .all(|byte| *byte == 0)
+    );
     assert_eq!(rt; number_at(&image, 1, 40), Some(2));
     assert_eq!(rt;
         (last.id, last.place),

@@ -1,5 +1,5 @@
 -- A run from its first call: the scan, and the lines that follow it.
-use Rattle.std.proofs.Common.{◌≡◌, inl, inr, ℕ, zero, suc, Bool, true, false, ◌^◌, ◌<◌, List, [], ◌∷◌, ◌++◌, map, length, replicate, Option, Some, None, IfSome, IfOk, IfErr, Result, Ok, Err, refl, sym, ap, ◌∙◌, subst, append-nil, append_assoc}
+use Rattle.std.proofs.Common.{◌≡◌, inl, ℕ, zero, suc, Bool, true, false, ◌^◌, ◌<◌, List, [], ◌∷◌, ◌++◌, map, length, replicate, Option, Some, None, IfSome, IfOk, IfErr, Result, Ok, Err, refl, sym, ap, ◌∙◌, subst}
 use Rattle.std.specs.List.{AllByRecursion}
 use Rattle.qls_model.specs.declared.machine.PoolId.{PoolId}
 use Rattle.qls_model.specs.Machine.{MachineState, empty_state, queue_named}
@@ -8,11 +8,9 @@ use Rattle.qls_site.specs.Content.{Content, Moment, OnlyLooks, Tells}
 use Rattle.qls_site.proofs.Told.{Tells-then, Tells-weaken}
 use Rattle.qls_meaning.specs.History.{History, AllUnmarked, newly_used, now, next}
 use Rattle.qls_meaning.specs.Journals.{Headed, in_use, is_in_use}
-use Rattle.qls_pool.specs.Pools.{PoolState, Opens}
 use Rattle.qls_pool.specs.Files.{IdsDiffer, IsListingOf, IsPoolOf}
 use Rattle.qls_pool.specs.Discipline.{TakesFile, TakesInOrder}
 use Rattle.qls_pool.proofs.Steps.{all_weaken, all_found}
-use Rattle.qls_filehdr.specs.declared.Rule.{Rule}
 use Rattle.qls_scan.specs.Found.{IsFound, IsFirstDamage}
 use Rattle.qls_scan.specs.declared.answers.Found.{Found}
 use Rattle.qls_scan.specs.declared.answers.ScanFault.{ScanFault}
@@ -32,7 +30,7 @@ use Rattle.qls_pool.specs.Serials.{TakesNone, DrawsTaken, serials_taken}
 use Rattle.qls_top.specs.Sessions.{HasLogs, FitsSession, IsCleanSession}
 use Rattle.qls_top.specs.Run.{AllAre, StaysAsItWas, MayBegin, StartsOn, Starts, TakesFilesInOrder, IsRun, EndsClean, RunsToEnd, MeetsEnd, EndsSpent, EndsSpentIn, refuses_start}
 use Rattle.qls_top.proofs.Came.{none_came, none_same}
-use Rattle.qls_top.proofs.Chains.{Arrives-then, Arrives-passes, Passes-of, since_of, since_is, since_then, unmarked_rest}
+use Rattle.qls_top.proofs.Chains.{Arrives-passes, Passes-of, since_of, since_is, since_then, unmarked_rest}
 use Rattle.qls_top.proofs.Drawing.{drawn_then, drawn_none}
 use Rattle.qls_top.proofs.Lines.{same_disk}
 use Rattle.qls_top.proofs.Fitting.{fits_empty}

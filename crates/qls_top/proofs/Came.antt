@@ -1,21 +1,14 @@
 -- Which files come into use between two moments.
-use Rattle.std.proofs.Common.{◌≡◌, ℕ, Bool, true, false, cond, not, ◌==◌, List, [], ◌∷◌, map, take, Option, Some, None, Result, Ok, refl, sym, ap, ◌∙◌, subst}
+use Rattle.std.proofs.Common.{◌≡◌, Bool, true, false, cond, not, List, [], ◌∷◌, map, Option, Some, None, refl, sym, ap, ◌∙◌, subst}
 use Rattle.std.specs.List.{filter, AllByRecursion}
-use Rattle.qls_site.specs.declared.site.Place.TheVariants.{InUse, Empty}
-use Rattle.qls_site.specs.Disk.{Disk, FileState, file_of, full_file, changed, change_file, create_at}
-use Rattle.qls_site.specs.Content.{Moment, on_disk}
-use Rattle.qls_site.proofs.Told.{KeepsId}
-use Rattle.qls_filehdr.specs.declared.FileHeader.{FileHeader}
-use Rattle.qls_filehdr.specs.Header.{header_of}
+use Rattle.qls_site.specs.Disk.{Disk, FileState, file_of, full_file}
+use Rattle.qls_site.specs.Content.{Moment}
 use Rattle.qls_meaning.specs.Journals.{Headed, headed, is_in_use, in_use}
 use Rattle.qls_meaning.specs.Kept.{Differ, ids_of}
-use Rattle.qls_meaning.specs.Orderly.{journal_on}
 use Rattle.qls_meaning.specs.History.{uses, is_file_in_use, newly_used}
 use Rattle.qls_site.specs.Disk.{full}
-use Rattle.qls_pool.specs.Taking.{put_in_use}
 use Rattle.qls_pool.specs.Next.{Epochs, TakesNext, IsNextTaken}
-use Rattle.qls_pool.proofs.Disks.{eqb_is, same_id}
-use Rattle.qls_pool.proofs.Steps.{all_map, all_weaken, all_with, all_found, apart}
+use Rattle.qls_pool.proofs.Steps.{all_weaken, all_found}
 
 -- a file in use was in use before
 abbrev pub WasInUse : Moment → FileState → Type 0

@@ -1,9 +1,8 @@
 -- Numbers that are drawn, and the serials of the files that come into use.
-use Rattle.std.proofs.Common.{◌≡◌, ◌⊎◌, inl, inr, ℕ, ◌≤◌, Bool, true, false, List, [], ◌∷◌, ◌++◌, map, length, Option, Some, None, Result, Ok, Err, refl, sym, ap, ◌∙◌, subst, arith, append_assoc, append-nil}
-use Rattle.qls_site.specs.Content.{Moment, Content, Tells, Draws, moments_since}
-use Rattle.qls_site.proofs.Told.{Tells-weaken}
+use Rattle.std.proofs.Common.{◌≡◌, ℕ, ◌≤◌, Bool, true, false, List, [], ◌∷◌, ◌++◌, map, length, Option, Some, None, refl, sym, ap, ◌∙◌, subst, arith, append_assoc, append-nil}
+use Rattle.qls_site.specs.Content.{Moment, Content, Tells}
 use Rattle.qls_meaning.specs.History.{newly_used}
-use Rattle.qls_pool.specs.Moments.{Chain, Passes, Arrives}
+use Rattle.qls_pool.specs.Moments.{Passes, Arrives}
 use Rattle.qls_meaning.specs.History.{last_of}
 use Rattle.qls_top.specs.Moments.{IsSilentStep}
 use Rattle.qls_pool.specs.Serials.{serials_taken, taken_since, TakesNone, AreDrawn, DrawsTaken}

@@ -1,20 +1,16 @@
 -- A table of logs that fits the machine's state and the disk: what the disk then holds, and what each command keeps.
-use Rattle.std.proofs.Common.{◌≡◌, ◌⊎◌, inl, inr, ℕ, Bool, true, false, cond, ◌&&◌, ◌+◌, ◌*◌, ◌^◌, ◌<◌, List, [], ◌∷◌, ◌++◌, map, length, take, Option, Some, None, Ok, IsTrue, refl, sym, ap, ◌∙◌, subst, arith}
-use Rattle.std.specs.List.{filter, flat_map, AllByRecursion}
-use Rattle.std.specs.Option.{option_or}
+use Rattle.std.proofs.Common.{◌≡◌, ℕ, Bool, true, false, cond, ◌&&◌, ◌^◌, ◌<◌, List, [], ◌∷◌, map, length, Option, Some, None, IsTrue, refl, sym, ap, ◌∙◌, subst, arith}
+use Rattle.std.specs.List.{filter, AllByRecursion}
 use Rattle.qls_model.specs.Bytes.{same}
-use Rattle.qls_model.specs.Machine.{MachineState, queue_named, with_queue, change_queue, put_message}
-use Rattle.qls_model.specs.Messages.{with_message}
+use Rattle.qls_model.specs.Machine.{MachineState, queue_named}
 use Rattle.qls_model.specs.declared.machine.PoolId.{PoolId}
-use Rattle.qls_model.specs.declared.machine.Message.{Message}
 use Rattle.qls_model.specs.declared.machine.QueueState.{QueueState}
 use Rattle.qls_site.specs.Disk.{Disk, FileState, IsQuiet, file_of, full, full_file}
-use Rattle.qls_site.specs.Content.{Content}
 use Rattle.qls_filehdr.specs.declared.FileHeader.{FileHeader}
 use Rattle.qls_filehdr.specs.declared.JournalKind.{JournalKind}
 use Rattle.qls_filehdr.specs.declared.JournalKind.TheVariants.{Queue}
 use Rattle.qls_filehdr.specs.Limits.{is_legal_header}
-use Rattle.qls_meaning.specs.Journals.{Headed, headed, is_in_use, in_use, is_of, is_queue, same_kind, by_number}
+use Rattle.qls_meaning.specs.Journals.{Headed, headed, is_in_use, in_use, is_of, same_kind, by_number}
 use Rattle.qls_meaning.specs.Orderly.{journal_on}
 use Rattle.qls_meaning.specs.Reading.{Read, journal_reading}
 use Rattle.qls_pool.specs.Pools.{PoolState}
@@ -22,13 +18,12 @@ use Rattle.qls_pool.specs.Files.{HeadedFile, LinkedThere, IsLinked, IsWholePool}
 use Rattle.qls_pool.proofs.Disks.{found_id}
 use Rattle.qls_pool.proofs.Steps.{all_weaken, all_found, reads_header}
 use Rattle.qls_log.specs.declared.opening.Opening.{Opening}
-use Rattle.qls_log.specs.Logs.{LogState, IsSound, IsOfOpening, capacity_in}
+use Rattle.qls_log.specs.Logs.{IsOfOpening, capacity_in}
 use Rattle.qls_log.specs.Standing.{LogThere, IsThatFile, AreThoseFiles, files_on}
-use Rattle.qls_log.specs.Steps.{is_own}
 use Rattle.qls_log.proofs.Splits.{by_number-back}
 use Rattle.qls_top.specs.declared.queues.QueueLog.{QueueLog}
-use Rattle.qls_top.specs.Stored.{HoldsQueue, IsHeaderOf, IsFileOf, IsStored, all_records}
-use Rattle.qls_top.specs.Table.{log_named, opening_of, Keeps, Pairs, IsTable, LogStands, HasEntry, AllNamed, Fits, ReadsQueue, ReadsPair, IsCleanTable}
+use Rattle.qls_top.specs.Stored.{HoldsQueue, IsFileOf, IsStored}
+use Rattle.qls_top.specs.Table.{log_named, opening_of, Keeps, Pairs, IsTable, LogStands, Fits, ReadsQueue, ReadsPair, IsCleanTable}
 use Rattle.qls_top.proofs.Journals.{found_all}
 use Rattle.qls_top.proofs.Tables.{named, same-self, queue_named-name}
 
@@ -141,8 +136,7 @@ module _ (home : PoolId) (S : MachineState) (pools : PoolState) (queues : List Q
       let one = of_journal (λ x. (h : HeadedFile) × IsThatFile (capacity_in l.opening) h x × (IsOfOpening l.opening h × IsTrue (is_legal_header h.header) × LinkedThere h d)) l.opening d id f all there used mine in
       let h : HeadedFile = one.0 in
       let linked : IsLinked h (Some f) = subst (IsLinked h) (ap (λ n. file_of n d) (sym one.1.id ∙ found_id id f d there) ∙ there) one.2.2 in
-      let o_is : IsOfOpening (opening_of home q.name) h = subst (λ (o : Opening). IsOfOpening o h) k.log.opening one.2.0 in
-      (
+      let o_is : IsOfOpening (opening_of home q.name) h = subst (λ (o : Opening). IsOfOpening o h) k.log.opening one.2.0 in (
         q,
         ap (λ n. queue_named n S.queues) at ∙ pair.1,
         record {

@@ -1,26 +1,22 @@
 -- A table in which one queue's log is new, or has one message more.
-use Rattle.std.proofs.Common.{◌≡◌, ℕ, Bool, true, false, cond, ◌&&◌, ◌<◌, List, [], ◌∷◌, ◌++◌, length, take, Option, Some, None, option_map, refl, sym, ap, ◌∙◌, subst, get_or}
+use Rattle.std.proofs.Common.{◌≡◌, ℕ, Bool, true, false, cond, List, [], ◌∷◌, ◌++◌, Option, Some, None, option_map, refl, sym, ap, ◌∙◌, subst}
 use Rattle.std.specs.Option.{option_or}
-use Rattle.std.proofs.Math.ListN.{set}
 use Rattle.qls_model.specs.Bytes.{same}
-use Rattle.qls_model.specs.Machine.{MachineState, queue_named, with_queue, change_queue}
+use Rattle.qls_model.specs.Machine.{MachineState, queue_named, change_queue}
 use Rattle.qls_model.specs.declared.machine.PoolId.{PoolId}
 use Rattle.qls_model.specs.declared.machine.QueueState.{QueueState}
-use Rattle.qls_site.specs.Disk.{Disk}
 use Rattle.qls_site.specs.Content.{Content}
 use Rattle.qls_filehdr.specs.declared.FileHeader.{FileHeader}
-use Rattle.qls_filehdr.specs.declared.JournalKind.TheVariants.{Queue}
-use Rattle.qls_meaning.specs.Journals.{same_kind}
 use Rattle.qls_pool.specs.Pools.{PoolState}
 use Rattle.qls_log.specs.declared.opening.Opening.{Opening}
 use Rattle.qls_log.specs.Standing.{LogThere}
 use Rattle.qls_log.specs.Steps.{is_own}
 use Rattle.qls_top.specs.declared.queues.QueueLog.{QueueLog}
 use Rattle.qls_top.specs.Steps.{Stands}
-use Rattle.qls_top.specs.Table.{log_named, opening_of, Keeps, Pairs, IsTable, LogStands, HasEntry, AllNamed, Fits, ReadsQueue, ReadsPair, IsCleanTable}
+use Rattle.qls_top.specs.Table.{log_named, opening_of, Keeps, Pairs, IsTable, LogStands, HasEntry, Fits, ReadsQueue, ReadsPair, IsCleanTable}
 use Rattle.qls_top.proofs.Fitting.{paired, stands_there, reads_there}
 use Rattle.qls_top.proofs.Journals.{journal_kept, read_kept, log_kept, named_kept}
-use Rattle.qls_top.proofs.Tables.{named, same-self, queue_named-name, queue_named-change_queue, changed_queue, log_named-push, log_named-set, either}
+use Rattle.qls_top.proofs.Tables.{named, same-self, queue_named-name, queue_named-change_queue, changed_queue, log_named-push}
 
 -- ---- what the look-ups find
 

@@ -1,22 +1,19 @@
 -- Files that come into use in a store that this run began: each step takes the next file of a journal, and all of them are in order.
-use Rattle.std.proofs.Common.{◌≡◌, ℕ, ◌+◌, Bool, true, false, cond, not, ◌&&◌, ◌||◌, ◌==◌, List, [], ◌∷◌, ◌++◌, map, take, Option, Some, None, Result, Ok, refl, sym, ap, ◌∙◌, subst}
+use Rattle.std.proofs.Common.{◌≡◌, ℕ, ◌+◌, Bool, true, false, cond, not, ◌&&◌, ◌||◌, ◌==◌, List, [], ◌∷◌, ◌++◌, map, take, Option, Some, None, Ok, refl, sym, ap, ◌∙◌, subst}
 use Rattle.std.specs.List.{filter, AllByRecursion}
 use Rattle.qls_site.specs.declared.site.Place.{Place}
 use Rattle.qls_site.specs.declared.site.Place.TheVariants.{InUse, Empty}
-use Rattle.qls_site.specs.Disk.{Disk, FileState, file_of, full, full_file, bytes_at, all_written}
-use Rattle.qls_site.specs.Content.{Moment, Content, Tells, moments_since}
-use Rattle.qls_site.proofs.Told.{Tells-weaken}
+use Rattle.qls_site.specs.Disk.{Disk, FileState, file_of, full, full_file, all_written}
+use Rattle.qls_site.specs.Content.{Moment, Content}
 use Rattle.qls_filehdr.specs.declared.FileHeader.{FileHeader}
 use Rattle.qls_filehdr.specs.Header.{header_of, header_fields}
-use Rattle.qls_filehdr.specs.declared.Rule.{Rule}
 use Rattle.qls_meaning.specs.Journals.{Headed, headed, is_in_use, in_use, is_of, by_number}
-use Rattle.qls_meaning.specs.Dead.{newest_number}
 use Rattle.qls_meaning.specs.History.{History, last_of, now, next, uses, is_file_in_use, came_into_use}
-use Rattle.qls_meaning.specs.Orderly.{IsNewFile, NamesPool, next_epoch, journal_on, IsTaken}
+use Rattle.qls_meaning.specs.Orderly.{IsNewFile, NamesPool, next_epoch, journal_on}
 use Rattle.qls_pool.specs.Files.{IdsDiffer}
-use Rattle.qls_pool.specs.Discipline.{IsPutInUse, PoolFileSteps, IsTakingStep, TakesInOrder, TakesFile}
+use Rattle.qls_pool.specs.Discipline.{PoolFileSteps, IsTakingStep, TakesInOrder, TakesFile}
 use Rattle.qls_pool.specs.Moments.{Chain, Passes}
-use Rattle.qls_pool.specs.Next.{TakesNext, IsNextFile}
+use Rattle.qls_pool.specs.Next.{TakesNext}
 use Rattle.qls_pool.proofs.Disks.{found_id}
 use Rattle.qls_pool.proofs.Steps.{all_weaken, all_both, all_found}
 use Rattle.qls_log.proofs.Splits.{all_by_number}
@@ -120,15 +117,17 @@ module _ (h : History) (differ : IdsDiffer (now h).disk) (came : CameAll h) (fir
       let put = pool.taken was used in
       let is = next was used in
       let header : FileHeader = is.0 in
-      let same : put.0 ≡ header = one_header (take 4096 g.stable) put.0 header put.1.legal is.1.legal in
-      (header, record {
-        legal = is.1.legal;
-        quiet = put.1.quiet;
-        least = put.1.least;
-        pool = subst (λ (x : FileHeader). NamesPool x f.place) same put.1.pool;
-        epoch = is.1.epoch ∙ sym (newest_first h came (journal_on (now h).disk header.kind header.name).files (first_files _ (is_of header.kind header.name) refl));
-        number = is.1.number;
-      })
+      let same : put.0 ≡ header = one_header (take 4096 g.stable) put.0 header put.1.legal is.1.legal in (
+        header,
+        record {
+          legal = is.1.legal;
+          quiet = put.1.quiet;
+          least = put.1.least;
+          pool = subst (λ (x : FileHeader). NamesPool x f.place) same put.1.pool;
+          epoch = is.1.epoch ∙ sym (newest_first h came (journal_on (now h).disk header.kind header.name).files (first_files _ (is_of header.kind header.name) refl));
+          number = is.1.number;
+        },
+      )
 
   taking_step : (n : Moment) → IsRunStep (now h) n → IsTakingStep [] h n
   taking_step n step =
@@ -145,8 +144,7 @@ taking_steps start free since [] differ first chain = tt
 taking_steps start free since (n ∷ ns) differ first chain =
     let h : History = record { start = start; since = since } in
     let came : CameAll h = λ id. ap (λ b. came_into_use id b start since) (sym (free id)) ∙ came_from id start since in
-    let at : last_of start (since ++ n ∷ []) ≡ n = last_two start n since in
-    (
+    let at : last_of start (since ++ n ∷ []) ≡ n = last_two start n since in (
       taking_step h differ came first n chain.0,
       taking_steps start free (since ++ n ∷ []) ns (subst (λ (m : Moment). IdsDiffer m.disk) (sym at) (chain.0.differ differ))
           (subst (λ (m : Moment). AllFirst m.disk) (sym at) (first_next (last_of start since) n chain.0 first)) (subst (λ (m : Moment). Chain IsRunStep m ns) (sym at) chain.1),

@@ -1,5 +1,5 @@
 -- What a call on one log leaves: a run's steps, the other journals, and the logs that stand on them.
-use Rattle.std.proofs.Common.{◌≡◌, ℕ, Bool, true, false, cond, ◌+◌, ◌==◌, List, [], ◌∷◌, take, Option, Some, None, Ok, IsTrue, refl, sym, ap, ◌∙◌, subst}
+use Rattle.std.proofs.Common.{◌≡◌, ℕ, Bool, true, false, cond, ◌+◌, ◌==◌, List, [], ◌∷◌, take, Option, Some, None, IsTrue, refl, sym, ap, ◌∙◌, subst}
 use Rattle.std.specs.List.{AllByRecursion}
 use Rattle.qls_site.specs.declared.site.Place.{Place}
 use Rattle.qls_site.specs.declared.site.Place.TheVariants.{InUse, Empty}
@@ -8,30 +8,29 @@ use Rattle.qls_site.specs.Content.{Moment, Content}
 use Rattle.qls_filehdr.specs.declared.JournalKind.{JournalKind}
 use Rattle.qls_filehdr.specs.declared.JournalKind.TheVariants.{Queue}
 use Rattle.qls_filehdr.specs.declared.FileHeader.{FileHeader}
-use Rattle.qls_filehdr.specs.declared.Rule.{Rule}
 use Rattle.qls_filehdr.specs.Limits.{is_legal_header}
-use Rattle.qls_filehdr.specs.Header.{header_of, header_fields, header_spelling}
-use Rattle.qls_meaning.specs.Journals.{Journal, Headed, headed, is_in_use, is_of}
+use Rattle.qls_filehdr.specs.Header.{header_fields, header_spelling}
+use Rattle.qls_meaning.specs.Journals.{Journal, headed, is_in_use, is_of}
 use Rattle.qls_meaning.specs.Dead.{newest_number}
-use Rattle.qls_meaning.specs.History.{last_of, uses, is_file_in_use}
+use Rattle.qls_meaning.specs.History.{last_of, is_file_in_use}
 use Rattle.qls_meaning.specs.Orderly.{IsNewFile, journal_on}
 use Rattle.qls_meaning.specs.Reading.{Read, epoch_end, journal_reading}
 use Rattle.qls_pool.specs.Moments.{Chain, Passes, Arrives}
 use Rattle.qls_pool.specs.Next.{TakesNext}
-use Rattle.qls_pool.specs.Files.{HeadedFile, IsLinked, HasHeader, LinkedThere, RestsThere, IsAtRest, IdsDiffer, is_among}
-use Rattle.qls_pool.specs.Discipline.{IsPutInUse, PoolFileStep, PoolFileSteps}
+use Rattle.qls_pool.specs.Files.{HeadedFile, IsLinked, LinkedThere, RestsThere, IsAtRest, IdsDiffer, is_among}
+use Rattle.qls_pool.specs.Discipline.{PoolFileSteps}
 use Rattle.qls_pool.proofs.Disks.{found_id}
-use Rattle.qls_pool.proofs.Steps.{all_weaken, not_both}
+use Rattle.qls_pool.proofs.Steps.{all_weaken}
 use Rattle.qls_log.specs.declared.opening.Opening.{Opening}
 use Rattle.qls_log.specs.Logs.{LogState, IsSound, IsOfOpening, capacity_in}
-use Rattle.qls_log.specs.Standing.{LogThere, HasFiles, AreThoseFiles, RestsBut, LastIsUnmarked, files_on, end_of}
+use Rattle.qls_log.specs.Standing.{LogThere, AreThoseFiles, LastIsUnmarked}
 use Rattle.qls_log.specs.Writing.{AreInUse}
 use Rattle.qls_log.specs.Reads.{IsRead}
 use Rattle.qls_log.specs.Steps.{IsLogStep, TakesOwn, is_own}
 use Rattle.qls_log.proofs.Takes.{header_seen}
 use Rattle.qls_top.specs.declared.queues.QueueLog.{QueueLog}
 use Rattle.qls_top.specs.Table.{log_named, HasEntry, AllNamed}
-use Rattle.qls_top.specs.Moments.{first_epochs, IsRunStep, IsSilentStep}
+use Rattle.qls_top.specs.Moments.{first_epochs, IsSilentStep}
 use Rattle.qls_top.proofs.Chains.{Passes-weaken, Arrives-weaken}
 use Rattle.qls_top.proofs.Headers.{fields_read}
 

@@ -1,36 +1,34 @@
 -- The calls on a log that a session makes, where the site tells its content.
-use Rattle.std.proofs.Common.{◌≡◌, ℕ, Bool, true, false, not, ◌&&◌, ◌==◌, eq-eqb, ◌+◌, ◌-◌, ◌*◌, ◌/◌, ◌<◌, ◌^◌, ◌≤◌, List, [], ◌∷◌, ◌++◌, map, length, Option, Some, None, IfSome, Result, Ok, Err, refl, sym, ap, ◌∙◌, subst, arith}
+use Rattle.std.proofs.Common.{◌≡◌, ℕ, true, false, not, ◌&&◌, ◌==◌, eq-eqb, ◌+◌, ◌*◌, ◌<◌, ◌^◌, List, [], ◌∷◌, ◌++◌, length, Option, Some, None, IfSome, Result, Ok, Err, refl, sym, ap, ◌∙◌, subst, arith}
 use Rattle.qls_model.specs.declared.machine.PoolId.{PoolId}
 use Rattle.qls_model.specs.declared.machine.Message.{Message}
 use Rattle.qls_record.specs.Record.{Record}
-use Rattle.qls_site.specs.Disk.{Disk, IsQuiet, full}
-use Rattle.qls_site.specs.Content.{Content, Moment, Tells, moments_since}
-use Rattle.qls_meaning.specs.History.{AllUnmarked, newly_used, last_of}
+use Rattle.qls_site.specs.Disk.{Disk, IsQuiet}
+use Rattle.qls_site.specs.Content.{Content, Tells}
+use Rattle.qls_meaning.specs.History.{AllUnmarked}
 use Rattle.qls_meaning.specs.Reading.{Read}
 use Rattle.qls_meaning.specs.Spent.{last_count, greatest_id, has_empty, new_journal_meets_end, batch_meets_end}
 use Rattle.qls_blocks.specs.Batching.{with_fillers, length_of, block_length, last_rid}
 use Rattle.qls_pool.specs.Pools.{PoolState, IsSpent}
-use Rattle.qls_pool.specs.Files.{HeadedFile, IdsDiffer, IsPoolOf, IsWholePool, OnDisk, Carries}
-use Rattle.qls_pool.specs.Moments.{EndsIn, Passes, Arrives}
-use Rattle.qls_pool.specs.Serials.{DrawsTaken, TakesNone}
+use Rattle.qls_pool.specs.Files.{HeadedFile, IsPoolOf, IsWholePool, OnDisk, Carries}
+use Rattle.qls_pool.specs.Moments.{Passes, Arrives}
 use Rattle.qls_pool.proofs.Taken.{no_empty}
 use Rattle.qls_log.specs.declared.opening.Opening.{Opening}
 use Rattle.qls_log.specs.declared.fault.LogError.{LogError}
 use Rattle.qls_log.specs.declared.fault.LogError.TheVariants as log
-use Rattle.qls_log.specs.Logs.{LogState, IsSound, AreHeaded, capacity_in}
+use Rattle.qls_log.specs.Logs.{LogState, IsSound, capacity_in}
 use Rattle.qls_log.specs.Standing.{LogThere, files_on}
 use Rattle.qls_log.specs.Steps.{IsLogStep, GoesBy, room_on}
 use Rattle.qls_log.specs.Steps.{is_exact as log_is_exact}
-use Rattle.qls_log.specs.Appending.{IsNew, IsQuietBut, HasAppended, SeesTheSame, new_log}
+use Rattle.qls_log.specs.Appending.{IsNew, IsQuietBut, HasAppended}
 use Rattle.qls_log.specs.Reads.{IsRead, BeginsReading, ReadsOn, batch_reads}
-use Rattle.qls_top.specs.declared.fault.Fault.{Fault}
 use Rattle.qls_top.specs.declared.fault.Fault.TheVariants as fault
 use Rattle.qls_top.specs.Status.{fault_of_log}
 use Rattle.qls_top.specs.Serials.{is_exact}
-use Rattle.qls_top.specs.Stored.{enqueue_of, records_of}
-use Rattle.qls_top.specs.Steps.{Stands, MakesLog, WritesMessage, HasWritten, MayMake, MayWrite, EndsMaking, EndsWriting}
-use Rattle.qls_top.specs.Table.{opening_of, block_of, written, IsLogOf}
-use Rattle.qls_top.proofs.Chains.{Arrives-then, Arrives-passes, Passes-of, since_of, since_then}
+use Rattle.qls_top.specs.Stored.{enqueue_of}
+use Rattle.qls_top.specs.Steps.{MakesLog, WritesMessage, HasWritten, MayMake, EndsMaking, EndsWriting}
+use Rattle.qls_top.specs.Table.{opening_of, IsLogOf}
+use Rattle.qls_top.proofs.Chains.{Arrives-then, Arrives-passes, Passes-of, since_of}
 use Rattle.qls_site.proofs.Told.{Tells-then, Tells-weaken}
 use Rattle.qls_top.proofs.Chains.{unmarked_front}
 

@@ -1,8 +1,8 @@
 -- What the machine does with a new queue and with a put, by whether the queue is there.
-use Rattle.std.proofs.Common.{◌≡◌, ℕ, Bool, true, false, cond, ◌+◌, ◌-◌, ◌==◌, eqb, ◌<◌, ◌^◌, List, [], ◌∷◌, Option, Some, None, refl, sym, ap, ◌∙◌, arith}
+use Rattle.std.proofs.Common.{◌≡◌, ℕ, Bool, true, false, cond, ◌+◌, ◌-◌, ◌==◌, ◌^◌, List, [], ◌∷◌, Option, Some, None, refl, sym, ap, ◌∙◌}
 use Rattle.std.specs.Option.{is_some, is_none}
 use Rattle.qls_model.specs.Messages.{with_message}
-use Rattle.qls_model.specs.Machine.{MachineState, queue_named, with_queue, change_queue, step, answered, first_true, refusals, put_message, passes, next_number}
+use Rattle.qls_model.specs.Machine.{MachineState, queue_named, with_queue, change_queue, step, answered, first_true, put_message, passes, next_number}
 use Rattle.qls_model.specs.declared.machine.QueueState.{QueueState}
 use Rattle.qls_model.specs.declared.machine.Command.TheVariants as command
 use Rattle.qls_model.specs.declared.machine.Refusal.{Refusal}

@@ -1,9 +1,9 @@
 -- What the disk holds at each reply: line by line, and over a whole run.
-use Rattle.std.proofs.Common.{◌≡◌, ◌⊎◌, inl, inr, ℕ, zero, suc, true, List, [], ◌∷◌, ◌++◌, replicate, Option, Some, None, IfSome, Result, Ok, Err, refl, sym, ap, ◌∙◌, subst, append_assoc, append-nil}
+use Rattle.std.proofs.Common.{◌≡◌, inl, inr, ℕ, zero, suc, true, List, [], ◌∷◌, ◌++◌, replicate, Option, Some, None, Ok, refl, sym, ap, ◌∙◌, subst, append_assoc, append-nil}
 use Rattle.qls_model.specs.declared.machine.PoolId.{PoolId}
 use Rattle.qls_model.specs.declared.machine.Command.{Command}
 use Rattle.qls_model.specs.Machine.{MachineState, empty_state}
-use Rattle.qls_site.specs.Disk.{Disk, IsQuiet}
+use Rattle.qls_site.specs.Disk.{IsQuiet}
 use Rattle.qls_site.specs.Content.{Content, Moment, Tells, moments_since, on_answered}
 use Rattle.qls_meaning.specs.History.{AllUnmarked}
 use Rattle.qls_command.specs.Lines.{lines, commands, command_of}
@@ -13,11 +13,10 @@ use Rattle.qls_command.specs.Texts.{reply_text}
 use Rattle.qls_top.specs.Answers.{answer_line, built_line, state_answered, answers_text}
 use Rattle.qls_top.specs.Cutting.{Cutter, kept_of_line, CutsTold, Counted}
 use Rattle.qls_pool.specs.Moments.{Chain, Passes, Arrives}
-use Rattle.qls_meaning.specs.History.{last_of}
 use Rattle.qls_top.specs.Moments.{AddsAnswer, AtReplies, IsRunStep, IsSilentStep, UnmarkedSince}
 use Rattle.qls_top.specs.Sessions.{HasLogs, RunsCommand, RepliesLine, IsCleanSession}
 use Rattle.qls_top.specs.Stored.{IsStored}
-use Rattle.qls_top.specs.Run.{IsUnderWay, UnderWay, StaysClean, IsReplied, RepliesIn, RepliesFrom, RepliesStored, RepliesClean}
+use Rattle.qls_top.specs.Run.{IsUnderWay, UnderWay, StaysClean, IsReplied, RepliesIn, RepliesStored, RepliesClean}
 use Rattle.qls_top.proofs.Chains.{chain-append, chain_weaken, Arrives-none, Passes-of, since_is, since_of, since_then, answers_nothing, unmarked_front, unmarked_rest}
 use Rattle.qls_top.proofs.Fitting.{stored}
 use Rattle.qls_top.proofs.Lines.{Quieted, answers_append, state_append, cut_split}

@@ -1,6 +1,6 @@
 -- What a session's commands leave, where the site tells its content.
-use Rattle.std.proofs.Common.{◌≡◌, ◌⊎◌, inl, inr, ℕ, Bool, true, false, not, cond, ◌&&◌, ◌||◌, ltb, ◌==◌, ◌+◌, ◌-◌, ◌*◌, ◌<◌, ◌≤◌, List, [], ◌∷◌, ◌++◌, map, length, append-nil, take, Option, Some, None, IfSome, refl, sym, ap, ◌∙◌, subst, arith, get_or}
-use Rattle.std.specs.List.{flat_map, slice_get}
+use Rattle.std.proofs.Common.{◌≡◌, inl, inr, ℕ, Bool, true, not, cond, ◌&&◌, ◌||◌, ltb, ◌==◌, ◌+◌, ◌-◌, ◌*◌, ◌<◌, ◌≤◌, List, [], ◌∷◌, ◌++◌, map, length, append-nil, take, Option, Some, None, IfSome, refl, sym, ap, ◌∙◌, subst, arith, get_or}
+use Rattle.std.specs.List.{slice_get}
 use Rattle.std.proofs.lemmas.Option.{slice_get-get_or}
 use Rattle.std.proofs.Math.ListN.{set}
 use Rattle.std.proofs.lemmas.Bool.{and_parts, lt-ltb, ltb-true}
@@ -28,22 +28,21 @@ use Rattle.qls_pool.specs.Pools.{PoolState}
 use Rattle.qls_log.specs.declared.opening.Opening.{Opening}
 use Rattle.qls_log.specs.Logs.{LogState, capacity_in}
 use Rattle.qls_log.specs.Standing.{files_on}
-use Rattle.qls_log.specs.Steps.{room_on}
 use Rattle.qls_top.specs.declared.queues.QueueLog.{QueueLog}
 use Rattle.qls_top.specs.declared.session.Session.{Session}
 use Rattle.qls_top.specs.Answers.{answer_built}
 use Rattle.qls_top.specs.Moments.{IsSilentStep}
 use Rattle.qls_top.specs.Stored.{records_of, all_records}
 use Rattle.qls_top.specs.Steps.{Stands, MakesLog, WritesMessage, HasWritten, MayMake, MayWrite, EndsMaking, EndsWriting}
-use Rattle.qls_top.specs.Table.{log_named, opening_of, block_of, written, IsLogOf, Keeps, IsTable, Fits, ReadsQueue, IsCleanTable}
-use Rattle.qls_top.specs.Ends.{room_left, put_meets_end, NeedsFirst, NeedsNext, StopsAtEnd}
-use Rattle.qls_top.specs.Sessions.{HasLogs, FitsSession, IsCleanSession, RunsCommand}
+use Rattle.qls_top.specs.Table.{log_named, opening_of, block_of, written, IsLogOf, Keeps, IsTable, Fits, IsCleanTable}
+use Rattle.qls_top.specs.Ends.{room_left, StopsAtEnd}
+use Rattle.qls_top.specs.Sessions.{HasLogs, FitsSession, RunsCommand}
 use Rattle.qls_top.proofs.Chains.{Arrives-none}
 use Rattle.qls_top.proofs.Fitting.{paired, paired_queue, no_journal, reads_there}
 use Rattle.qls_top.proofs.Growing.{entry_after, queue_after_change, grown_table, grown_fits, grown_clean}
 use Rattle.qls_top.proofs.Journals.{silent_arrival}
-use Rattle.qls_top.proofs.Machine.{new_queue, queue_made, queue_stays, HasPut, put_answered, put_state, put_stays}
-use Rattle.qls_top.proofs.Tables.{named, same-self, queue_named-with_queue, queue_named-name, log_named-set}
+use Rattle.qls_top.proofs.Machine.{new_queue, queue_made, HasPut}
+use Rattle.qls_top.proofs.Tables.{named, queue_named-with_queue, queue_named-name, log_named-set}
 
 pub if_some : (P Q : Content → Type 0) (o : Option Content) → IfSome o P → ((c : Content) → P c → Q c) → IfSome o Q
 if_some P Q None h f = tt

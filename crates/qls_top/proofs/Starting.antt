@@ -1,5 +1,5 @@
 -- The start of a run: what the scan says of the site, and which sites can't be started on.
-use Rattle.std.proofs.Common.{◌≡◌, ℕ, Bool, true, false, cond, not, ◌==◌, ◌&&◌, ◌^◌, ◌<◌, ◌≤◌, max, List, [], ◌∷◌, ◌++◌, map, length, replicate, Option, Some, None, IfSome, IfOk, IfErr, Result, Ok, Err, refl, sym, ap, ◌∙◌, subst, arith, append-nil, append_assoc}
+use Rattle.std.proofs.Common.{◌≡◌, ℕ, Bool, true, false, cond, not, ◌==◌, ◌&&◌, ◌<◌, max, List, [], ◌∷◌, ◌++◌, map, length, Some, Result, Ok, Err, refl, sym, ap, ◌∙◌, subst, arith}
 use Rattle.std.specs.List.{filter, AllByRecursion}
 use Rattle.std.proofs.lemmas.Bool.{and_parts, eqb-true}
 use Rattle.std.proofs.lemmas.Bool.Decides.{nat_tests}
@@ -12,15 +12,13 @@ use Rattle.qls_site.specs.declared.site.Place.TheVariants.{InUse, Empty}
 use Rattle.qls_site.specs.declared.site.FileAt.{FileAt}
 use Rattle.qls_site.specs.declared.site.ImageFile.{ImageFile}
 use Rattle.qls_site.specs.Disk.{Disk, FileState, Image, IdsRise, AllAbove, file_of, full, full_file, listed, listing, size_of}
-use Rattle.qls_site.specs.Content.{Content, Moment, OnlyLooks, Tells}
 use Rattle.qls_filehdr.specs.declared.Rule.{Rule}
 use Rattle.qls_filehdr.specs.declared.Rule.TheVariants as rule
 use Rattle.qls_meaning.specs.Journals.{Journal, Headed, headed, in_use, empties, is_in_use, is_queue, journal, journals, journals_of, queue_names, list_journals, with_name}
 use Rattle.qls_meaning.specs.Damage.{Damage, Checked, id_claim, pool_claim, header_claims, chain_claims, is_pool, scanned}
 use Rattle.qls_meaning.specs.Kept.{Differ, ids_of}
-use Rattle.qls_meaning.specs.History.{newly_used}
 use Rattle.qls_meaning.specs.Spent.{greatest_id}
-use Rattle.qls_pool.specs.Files.{IdsDiffer, FitsPools, IsListingOf, IsSized, FitsPlace, is_listed_empty}
+use Rattle.qls_pool.specs.Files.{IsListingOf, IsSized, FitsPlace, is_listed_empty}
 use Rattle.qls_scan.specs.Found.{IsFound, IsFirstDamage, listed_as, greatest, files_of}
 use Rattle.qls_scan.specs.declared.answers.Found.{Found}
 use Rattle.qls_scan.specs.declared.answers.ScanFault.{ScanFault}

@@ -2,7 +2,7 @@
 use Rattle.std.specs.Prelude.{◌≡◌, ℕ, ◌+◌, ◌*◌, ◌^◌, ◌<◌, true, false, List, [], ◌++◌, map}
 use Rattle.qls_model.specs.declared.machine.PoolId.{PoolId}
 use Rattle.qls_model.specs.declared.machine.Message.{Message}
-use Rattle.qls_site.specs.Content.{Moment, Content}
+use Rattle.qls_site.specs.Content.{Content}
 use Rattle.qls_meaning.specs.Reading.{Read}
 use Rattle.qls_meaning.specs.History.{AllUnmarked}
 use Rattle.qls_meaning.specs.Spent.{new_journal_meets_end, batch_meets_end}

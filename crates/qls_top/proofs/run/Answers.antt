@@ -1,7 +1,7 @@
-use Rattle.std.proofs.Common.{◌≡◌, refl, sym, Ok, Err, ap, ◌∙◌, subst}
+use Rattle.std.proofs.Common.{refl, sym, Ok, Err, ap, ◌∙◌, subst}
 use Rattle.qls_pool.specs.Serials.{DrawsTaken}
 use Rattle.qls_top.specs.Run.{is_exact_status}
-use Rattle.qls_top.proofs.Lines.{starts_with, status_same, exact_status, spent_status, may_not_begin}
+use Rattle.qls_top.proofs.Lines.{starts_with, status_same, exact_status}
 use Rattle.qls_top.proofs.run.Goals as goal
 
 pub returns-in-Ok-clause-not_empty : goal.returns-in-Ok-clause-not_empty

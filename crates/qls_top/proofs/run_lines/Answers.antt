@@ -1,4 +1,4 @@
-use Rattle.std.proofs.Common.{rules, ◌≡◌, Bool, true, List, ℕ, Result, Err, ◌∙◌, refl, ap, subst, arith}
+use Rattle.std.proofs.Common.{rules, ◌≡◌, Bool, true, List, ℕ, Result, Err, ◌∙◌, refl, subst, arith}
 use Rattle.qls_top.specs.declared.fault.Fault.{Fault}
 use Rattle.qls_top.specs.declared.fault.Fault.TheVariants as fault
 use Rattle.qls_top.specs.Answers.{built_line}
@@ -11,10 +11,10 @@ use Rattle.qls_pool.specs.Serials.{DrawsTaken}
 use Rattle.qls_top.specs.Serials.{is_exact}
 use Rattle.qls_top.specs.Ends.{StopsAtEnd}
 use Rattle.qls_top.specs.Sessions.{RunsLine, RepliesLine}
-use Rattle.qls_top.proofs.Chains.{went_then, went_of}
+use Rattle.qls_top.proofs.Chains.{went_then}
 use Rattle.qls_top.proofs.CutLines.{counted_then}
-use Rattle.qls_top.proofs.Drawing.{drawn_then, drawn_any}
-use Rattle.qls_top.proofs.Lines.{line_run, line_went, line_passes, line_fits, line_quieted, line_clean, line_rests, line_spent, read_so_far, script_ended, fails_quietly, quieted_passes, quieted_rests}
+use Rattle.qls_top.proofs.Drawing.{drawn_then}
+use Rattle.qls_top.proofs.Lines.{line_run, line_went, line_passes, line_fits, line_quieted, line_clean, line_spent, read_so_far, script_ended, fails_quietly, quieted_rests}
 use Rattle.qls_top.proofs.Replying.{line_replies}
 use Rattle.qls_top.proofs.run_lines.Goals as goal
 

@@ -1,15 +1,13 @@
-use Rattle.std.proofs.Common.{rules, ◌≡◌, ℕ, true, length, List, [], Option, IfSome, IfOk, Result, Ok, Err, ap, sym, arith, ◌∙◌, refl, subst}
-use Rattle.qls_site.specs.Content.{Content, Tells}
+use Rattle.std.proofs.Common.{rules, ◌≡◌, true, length, List, [], Result, Err, ap, sym, arith, ◌∙◌, refl, subst}
 use Rattle.qls_scan.specs.declared.answers.JournalFiles.{JournalFiles}
 use Rattle.qls_pool.specs.Files.{IsPoolOf}
 use Rattle.qls_top.specs.declared.fault.Fault.{Fault}
 use Rattle.qls_top.specs.declared.fault.Fault.TheVariants as fault
 use Rattle.qls_top.specs.Status.{fault_of_scan}
-use Rattle.qls_pool.specs.Serials.{DrawsTaken}
 use Rattle.qls_top.specs.Serials.{is_exact}
 use Rattle.qls_top.specs.Run.{Starts, RunsToEnd, EndsClean}
 use Rattle.qls_top.proofs.Drawing.{drawn_none}
-use Rattle.qls_top.proofs.Beginning.{Looked, looked, looked_in_order, looked_quietly, looked_none, lines_in_order, lines_quiet, lines_drawn, if_ok, run_done, run_spent, fits_started, logs_started, starts_scanned, starts_used, starts_wanting, starts_ready}
+use Rattle.qls_top.proofs.Beginning.{looked, looked_in_order, looked_quietly, looked_none, lines_in_order, lines_quiet, lines_drawn, if_ok, run_done, run_spent, fits_started, logs_started, starts_scanned, starts_used, starts_wanting, starts_ready}
 use Rattle.qls_top.proofs.Replying.{run_replies, looked_replies}
 use Rattle.qls_top.proofs.run_script.Goals as goal
 

@@ -1,8 +1,6 @@
-use Rattle.std.proofs.Common.{rules, ◌≡◌, Err, sym, ap, ◌∙◌, subst}
+use Rattle.std.proofs.Common.{rules, ◌≡◌, Err, ap, ◌∙◌, subst}
 use Rattle.qls_pool.specs.Pools.{PoolState, IsSpent}
-use Rattle.qls_log.specs.declared.fault.LogError.{LogError}
 use Rattle.qls_log.specs.declared.fault.LogError.TheVariants as log
-use Rattle.qls_top.specs.declared.fault.Fault.TheVariants as fault
 use Rattle.qls_top.specs.Status.{fault_of_log}
 use Rattle.qls_top.specs.Table.{opening_of}
 use Rattle.qls_top.proofs.LogCalls.{made, made_ends, arrives_ok, arrives_spent, spent_of}

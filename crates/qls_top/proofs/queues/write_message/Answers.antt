@@ -1,4 +1,4 @@
-use Rattle.std.proofs.Common.{rules, ◌≡◌, ◌<◌, true, List, [], ◌∷◌, length, Err, refl, sym, ap, ◌∙◌, subst, arith}
+use Rattle.std.proofs.Common.{rules, ◌≡◌, ◌<◌, true, List, [], length, Err, refl, sym, ap, ◌∙◌, subst, arith}
 use Rattle.qls_model.specs.declared.machine.Message.{Message}
 use Rattle.qls_model.specs.declared.machine.Status.TheVariants.{Ready}
 use Rattle.qls_record.specs.Record.{Record}
@@ -8,7 +8,6 @@ use Rattle.qls_log.specs.Logs.{IsSound}
 use Rattle.qls_log.specs.Steps.{IsLogStep}
 use Rattle.qls_top.specs.Status.{fault_of_log}
 use Rattle.qls_top.specs.Serials.{is_exact}
-use Rattle.qls_top.specs.Stored.{enqueue_of}
 use Rattle.qls_top.proofs.Chains.{ends_err}
 use Rattle.qls_top.proofs.Drawing.{drawn_then, drawn_none, drawn_any}
 use Rattle.qls_top.proofs.LogCalls.{passes_of, arrives_ok, arrives_spent, spent_of, has_written, sound_again, wrote, passed_on, write_ends}

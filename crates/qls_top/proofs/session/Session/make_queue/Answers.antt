@@ -1,15 +1,14 @@
-use Rattle.std.proofs.Common.{true, rules, arith, ◌≡◌, ◌++◌, ◌∷◌, [], List, ℕ, Some, None, Err, refl, sym, ap, ◌∙◌, subst}
+use Rattle.std.proofs.Common.{true, rules, arith, ◌≡◌, List, ℕ, Some, None, Err, refl, sym, ap, ◌∙◌, subst}
 use Rattle.qls_model.specs.declared.machine.Command.{Command}
 use Rattle.qls_model.specs.declared.machine.Command.TheVariants as command
 use Rattle.qls_model.specs.declared.machine.Reply.{Reply}
 use Rattle.qls_model.specs.declared.machine.Reply.TheVariants.{Done}
-use Rattle.qls_model.specs.Machine.{MachineState, step}
-use Rattle.qls_site.specs.Content.{Content, Tells}
+use Rattle.qls_model.specs.Machine.{step}
+use Rattle.qls_site.specs.Content.{Tells}
 use Rattle.qls_site.proofs.Told.{Tells-weaken}
 use Rattle.qls_pool.specs.Moments.{Passes}
 use Rattle.qls_log.specs.Steps.{IsLogStep}
 use Rattle.qls_top.specs.declared.fault.Fault.TheVariants as fault
-use Rattle.qls_top.specs.declared.queues.QueueLog.{QueueLog}
 use Rattle.qls_top.specs.declared.session.Session.{Session}
 use Rattle.qls_top.specs.Ends.{StopsAtEnd}
 use Rattle.qls_top.specs.Moments.{IsSilentStep}

@@ -1,4 +1,4 @@
-use Rattle.std.proofs.Common.{true, rules, arith, ◌≡◌, ◌+◌, ◌<◌, ◌^◌, ℕ, List, Some, None, IfSome, Err, refl, sym, ap, ◌∙◌, subst, length, take, get_or}
+use Rattle.std.proofs.Common.{true, rules, arith, ◌≡◌, ◌<◌, List, Some, None, Err, refl, sym, ap, ◌∙◌, subst, length, take}
 use Rattle.std.specs.Vec.{with_item}
 use Rattle.qls_model.specs.declared.machine.Message.{Message}
 use Rattle.qls_model.specs.declared.machine.Status.TheVariants.{Ready}
@@ -6,12 +6,11 @@ use Rattle.qls_model.specs.declared.machine.Command.{Command}
 use Rattle.qls_model.specs.declared.machine.Command.TheVariants as command
 use Rattle.qls_model.specs.declared.machine.Reply.{Reply}
 use Rattle.qls_model.specs.declared.machine.Reply.TheVariants.{Number}
-use Rattle.qls_model.specs.Machine.{MachineState, step}
-use Rattle.qls_site.specs.Content.{Content, Tells}
+use Rattle.qls_model.specs.Machine.{step}
+use Rattle.qls_site.specs.Content.{Tells}
 use Rattle.qls_site.proofs.Told.{Tells-weaken}
 use Rattle.qls_pool.specs.Files.{OnDisk}
 use Rattle.qls_pool.specs.Moments.{Passes}
-use Rattle.qls_log.specs.Logs.{LogState}
 use Rattle.qls_log.specs.Standing.{LogThere}
 use Rattle.qls_log.specs.Steps.{IsLogStep}
 use Rattle.qls_log.specs.declared.opening.Opening.{Opening}
@@ -21,15 +20,14 @@ use Rattle.qls_top.specs.declared.session.Session.{Session}
 use Rattle.qls_top.specs.Ends.{StopsAtEnd}
 use Rattle.qls_top.specs.Moments.{IsSilentStep}
 use Rattle.qls_top.specs.Sessions.{FitsSession, RunsCommand}
-use Rattle.qls_top.specs.Serials.{is_exact}
 use Rattle.qls_top.specs.Steps.{WritesMessage, EndsWriting}
 use Rattle.qls_top.specs.Table.{log_named}
 use Rattle.qls_top.proofs.Chains.{ends_err}
 use Rattle.qls_top.proofs.Drawing.{drawn_none, tells_none}
 use Rattle.qls_top.proofs.Fitting.{stands_there}
 use Rattle.qls_top.proofs.Journals.{silent_passing}
-use Rattle.qls_top.proofs.Machine.{HasPut, put_answered, put_stays}
-use Rattle.qls_top.proofs.SessionSteps.{if_some, tells_same, tells_with, runs_nothing, same_logs, entry_is, no_entry, may_write, opening_is, writing_ends, put_run, put_logs}
+use Rattle.qls_top.proofs.Machine.{put_answered, put_stays}
+use Rattle.qls_top.proofs.SessionSteps.{if_some, tells_same, tells_with, runs_nothing, same_logs, entry_is, may_write, opening_is, writing_ends, put_run, put_logs}
 use Rattle.qls_top.proofs.session.Session.put.Goals as goal
 
 pub returns-in_default : goal.returns-in_default

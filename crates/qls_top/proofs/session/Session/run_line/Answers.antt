@@ -1,4 +1,4 @@
-use Rattle.std.proofs.Common.{true, false, refl}
+use Rattle.std.proofs.Common.{refl}
 use Rattle.qls_command.specs.Lines.{command_of}
 use Rattle.qls_top.specs.Answers.{built_line}
 use Rattle.qls_top.specs.Moments.{IsRunStep, IsSilentStep}
