@@ -1,6 +1,9 @@
 // Logs over a site in memory: what files hold after batches, and what a call answers that fails.
 ghost use Rattle.std.specs.Prelude.{◌≡◌, ◌<◌, ◌≤◌, ◌+◌, ◌^◌, ◌++◌, false, List, [], IfOk, IfSome, length};
-ghost use Rattle.qls_pool.specs.Files.{IsPoolOf, IsWholePool, OnDisk};
+ghost use Rattle.qls_site.specs.Disk.{full};
+ghost use Rattle.qls_memsite.specs.Memory.{content_of};
+ghost use Rattle.qls_meaning.specs.Journals.{is_in_use, in_use};
+ghost use Rattle.qls_pool.specs.Files.{IsPoolOf, IsWholePool, FitsPlace, FitsPools, OnDisk};
 ghost use Rattle.qls_log.specs.Standing.{LogThere};
 ghost use Rattle.qls_record.specs.Record.{Record};
 ghost use Rattle.qls_site.specs.Content.{Tells, moments_since};
@@ -17,7 +20,7 @@ use qls_memsite::{CallKind, MemSerials, MemSite};
 use qls_model::{Bytes, Name, NoMemory, PoolId, Seq, Xid};
 use qls_pool::Pool;
 use qls_record::{Head, Kind};
-use qls_site::{ImageFile, Serials, Site};
+use qls_site::{ImageFile, Place, Serials, Site};
 use std::alloc::Global;
 use std::test::Fail;
 
@@ -28,14 +31,53 @@ const HOME: PoolId = PoolId { part: 1, kib: 4 };
 fn open_pools<S: Site>(alloc: Global, site: &mut S) -> Result<Pool, Fail>
     requires fits { IfSome (S.told site.old) (OnDisk (λ d. d ≡ [])) }
     ensures pool { IfOk result (λ pool. IfSome (S.told site.new) (OnDisk (IsWholePool pool))) }
-    ensures empty { IfOk result (λ _. IfSome (S.told site.new) (OnDisk (λ d. d ≡ []))) }
+    ensures free { IfOk result (λ _. IfSome (S.told site.new) (OnDisk (λ d. in_use (full d) ≡ []))) }
 {
     let files = site.list(alloc)?;
     let pool = Pool::open(alloc, 0, &files)?;
     Ok(pool)
 }
 
-/// The queue `a`, on a site without files.
+/// An empty file of the pool whose bytes are all the same.
+fn filled(alloc: Global, id: u64, byte: u8) -> Result<ImageFile, NoMemory>
+    ensures id { IfOk result (λ file. file.id ≡ id) }
+    ensures size { IfOk result (λ file. FitsPlace file.place (length file.bytes)) }
+    ensures empty { IfOk result (λ file. is_in_use file.place ≡ false) }
+{
+    let bytes = Vec::from_elem(alloc, byte, 8192)?;
+    Ok(ImageFile {
+        id,
+        place: Place::Empty { part: 1, kib: 4 },
+        bytes: Bytes::from_vec(bytes),
+    })
+}
+
+/// A site with two empty files of the pool: all bytes of one are 3, of the other 5.
+fn begin(alloc: Global, first: u64, second: u64) -> Result<MemSite, NoMemory>
+    requires { first < second }
+    ensures fits { IfOk result (λ site. FitsPools second (content_of site).now.disk) }
+    ensures free { IfOk result (λ site. in_use (full (content_of site).now.disk) ≡ []) }
+{
+    let mut files = Seq::new(alloc);
+    files.push(filled(alloc, first, 3)?)?;
+    files.push(filled(alloc, second, 5)?)?;
+    MemSite::from_image(alloc, files)
+}
+
+/// The pools of a site with empty files.
+fn open_listed<S: Site>(alloc: Global, site: &mut S, greatest: u64) -> Result<Pool, Fail>
+    requires greatest { greatest < 2 ^ 62 }
+    requires fits { IfSome (S.told site.old) (OnDisk (FitsPools greatest)) }
+    requires free { IfSome (S.told site.old) (OnDisk (λ d. in_use (full d) ≡ [])) }
+    ensures pool { IfOk result (λ pool. IfSome (S.told site.new) (OnDisk (IsWholePool pool))) }
+    ensures free { IfOk result (λ _. IfSome (S.told site.new) (OnDisk (λ d. in_use (full d) ≡ []))) }
+{
+    let files = site.list(alloc)?;
+    let pool = Pool::open(alloc, greatest, &files)?;
+    Ok(pool)
+}
+
+/// The queue `a`, on a site without a file in use.
 fn make<S: Site, N: Serials>(
     alloc: Global,
     site: &mut S,
@@ -43,7 +85,7 @@ fn make<S: Site, N: Serials>(
     serials: &mut N,
 ) -> Result<Log, LogError>
     requires pool { IfSome (S.told site.old) (OnDisk (IsWholePool pool.old)) }
-    requires empty { IfSome (S.told site.old) (OnDisk (λ d. d ≡ [])) }
+    requires free { IfSome (S.told site.old) (OnDisk (λ d. in_use (full d) ≡ [])) }
     ensures pool { IfOk result (λ _. IfSome (S.told site.new) (OnDisk (IsPoolOf pool.new []))) }
     ensures there { IfOk result (λ log. IfSome (S.told site.new) (OnDisk (LogThere log))) }
     ensures log { IfOk result (λ log. (log.ended ≡ false) × (log.unsynced ≡ [])) }
@@ -266,6 +308,36 @@ fn a_body_of_a_mebibyte_takes_257_files(rt: HostRuntime) -> Result<(), Fail> {
     }
     for file in [1, 255, 256] {
         assert_eq!(rt; number_at(&files, file, 16), Some(1), "{file}");
+    }
+    Ok(())
+}
+
+/// The batch needs three files, and the pool has the first two: the second one is taken, and then nothing is written.
+#[test]
+fn a_batch_that_meets_the_end_isnt_written(rt: HostRuntime) -> Result<(), Fail> {
+    let alloc = rt.alloc();
+    let mut site = begin(alloc, 5, (1 << 62) - 1)?;
+    let mut serials = MemSerials::counting(7);
+    let mut pool = open_listed(alloc, &mut site, (1 << 62) - 1)?;
+    let mut log = make(alloc, &mut site, &mut pool, &mut serials)?;
+    let done = put(alloc, &mut log, &mut site, &mut pool, &mut serials, 8129);
+    assert_eq!(rt; done.err(), Some(LogError::Spent));
+    assert_eq!(rt; log.is_ended(), true);
+    let files = now(alloc, &site)?;
+    assert_eq!(rt; files.len(), 2);
+    for (file, at, wanted) in [
+        (0, 8, 7),
+        (0, 40, 1),
+        (0, 4096, 0x0303_0303_0303_0303),
+        (1, 8, 8),
+        (1, 40, 2),
+        (1, 48, 1),
+        (1, 4096, 0x0505_0505_0505_0505),
+    ] {
+        assert_eq!(rt; number_at(&files, file, at), Some(wanted), "{file} {at}");
+    }
+    for file in files.as_slice() {
+        assert_eq!(rt; file.place, Place::InUse);
     }
     Ok(())
 }

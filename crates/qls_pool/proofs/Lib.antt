@@ -8,4 +8,4 @@ pub mod FirstTaken
 pub mod Moments
 pub mod Serials
 pub mod Came
-mod TwoFiles
+pub mod TwoFiles

@@ -1,8 +1,9 @@
 -- A site that begins with two empty files, as the tests have it.
-use Rattle.std.proofs.Common.{◌≡◌, ℕ, ◌<◌, Bool, true, false, cond, ◌==◌, ltb, [], ◌∷◌, length, Some, None, Result, Ok, Err, IfOk, refl, sym, ap, ◌∙◌, subst, arith, max}
+use Rattle.std.proofs.Common.{◌≡◌, ℕ, ◌<◌, Bool, true, false, cond, ◌==◌, ltb, [], ◌∷◌, length, Some, None, Result, Ok, Err, IfOk, refl, sym, ap, ap₂, ◌∙◌, subst, arith, max}
 use Rattle.std.proofs.lemmas.Bool.Decides.{nat_tests}
 use Rattle.qls_site.specs.declared.site.ImageFile.{ImageFile}
-use Rattle.qls_site.specs.Disk.{Image, at_rest}
+use Rattle.qls_site.specs.Disk.{Image, at_rest, full}
+use Rattle.qls_meaning.specs.Journals.{is_in_use, in_use}
 use Rattle.qls_site.specs.Content.{Content}
 use Rattle.qls_model.specs.declared.bytes.NoMemory.{NoMemory}
 use Rattle.qls_memsite.specs.declared.memory.MemSite.{MemSite}
@@ -43,3 +44,16 @@ fits_begun f g files second (Ok site) e is less k l begins =
     subst (λ n. FitsPools n (content_of site).now.disk) is
     (subst (FitsPools g.id) (sym (ap (λ (c : Content). c.now.disk) begins.content ∙ ap (λ (i : Image). at_rest (by_id i)) e ∙ ap at_rest (in_order f g less))) (fit f g less k l))
 fits_begun f g files second (Err x) e is less k l begins = tt
+
+-- none of the two is in use
+pub free_begun : (f g : ImageFile) (files : Image) (r : Result MemSite NoMemory) → files ≡ f ∷ g ∷ [] → f.id < g.id → is_in_use f.place ≡ false → is_in_use g.place ≡ false → IfOk r (BeginsOn (by_id files))
+    → IfOk r (λ site. in_use (full (content_of site).now.disk) ≡ [])
+free_begun f g files (Ok site) e less p q begins =
+    ap (λ (c : Content). in_use (full c.now.disk)) begins.content ∙ ap (λ (i : Image). in_use (full (at_rest (by_id i)))) e ∙ ap (λ (i : Image). in_use (full (at_rest i))) (in_order f g less)
+    ∙ ap₂ (λ a b. in_use_by a b (full (at_rest (f ∷ g ∷ [])))) p q
+  where
+    in_use_by : Bool → Bool → Image → Image
+    in_use_by a b [] = []
+    in_use_by a b (i ∷ []) = cond a (i ∷ []) []
+    in_use_by a b (i ∷ j ∷ is) = let rest = cond b (j ∷ []) [] in cond a (i ∷ rest) rest
+free_begun f g files (Err x) e less p q begins = tt
