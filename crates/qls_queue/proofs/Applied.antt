@@ -2,11 +2,9 @@
 use Rattle.std.proofs.Common.{◌≡◌, ℕ, ◌+◌, ◌^◌, ◌<◌, ◌≤◌, Bool, false, List, [], ◌∷◌, ◌++◌, length, Option, IfSome, refl, sym, ap, ◌∙◌, subst, arith, length-append}
 use Rattle.std.specs.List.{AllByRecursion}
 use Rattle.qls_record.specs.Record.{Record, rid_given}
-use Rattle.qls_model.specs.declared.machine.QueueState.{QueueState}
 use Rattle.qls_site.specs.Content.{Content, Tells}
 use Rattle.qls_enqmap.specs.declared.Held.{Held}
 use Rattle.qls_enqmap.specs.Records.{AllBelow}
-use Rattle.qls_meaning.specs.Reading.{Read}
 use Rattle.qls_meaning.specs.Replay.{after_record}
 use Rattle.qls_replay.specs.Held.{held_after, messages_of}
 use Rattle.qls_replay.proofs.Above.{below_after}
@@ -17,8 +15,7 @@ use Rattle.qls_log.specs.declared.opening.Opening.{Opening}
 use Rattle.qls_log.specs.Logs.{LogState}
 use Rattle.qls_log.specs.Standing.{LogThere}
 use Rattle.qls_log.specs.Reads.{ReadsOn}
-use Rattle.qls_log.specs.Appending.{HasAppended}
-use Rattle.qls_queue.specs.Live.{LiveState, live, IsSound, QueueReadsOn}
+use Rattle.qls_queue.specs.Live.{live, IsSound, QueueReadsOn}
 use Rattle.qls_queue.specs.Writing.{HasWritten}
 use Rattle.qls_queue.specs.Records.{read_at, HasXid}
 use Rattle.qls_queue.proofs.Xids.{xids_after}

@@ -1,12 +1,9 @@
 -- A batch of ends, and the queue behind a batch.
-use Rattle.std.proofs.Common.{◌≡◌, ℕ, zero, suc, ◌+◌, ◌^◌, ◌<◌, Bool, true, false, List, [], ◌∷◌, ◌++◌, map, replicate, length, Option, IfSome, refl, sym, ap, ◌∙◌, subst, arith}
+use Rattle.std.proofs.Common.{◌≡◌, ℕ, ◌+◌, ◌^◌, ◌<◌, Bool, true, false, List, [], ◌∷◌, ◌++◌, map, replicate, length, Option, IfSome, refl, sym, ap, ◌∙◌, subst, arith}
 use Rattle.std.specs.List.{AllByRecursion}
 use Rattle.qls_shape.specs.declared.Version.TheVariants.{Two}
-use Rattle.qls_record.specs.declared.Kind.{Kind}
-use Rattle.qls_record.specs.declared.Kind.TheVariants.{Enqueue, Dequeue, Commit, Abort, Filler}
 use Rattle.qls_record.specs.Record.{Record, record_length, rid_given}
 use Rattle.qls_model.specs.Messages.{decided, only}
-use Rattle.qls_model.specs.declared.machine.Message.{Message}
 use Rattle.qls_model.specs.declared.machine.QueueState.{QueueState}
 use Rattle.qls_site.specs.Content.{Content, Tells}
 use Rattle.qls_decide.specs.declared.End.{End}
@@ -14,8 +11,8 @@ use Rattle.qls_enqmap.specs.declared.Held.{Held}
 use Rattle.qls_enqmap.specs.Records.{AllBelow}
 use Rattle.qls_meaning.specs.Reading.{Read}
 use Rattle.qls_meaning.specs.Replay.{after_record, queue_after}
-use Rattle.qls_blocks.specs.Batching.{with_fillers, filler_of, filler_count, last_rid, laid_from}
-use Rattle.qls_replay.specs.Held.{message_of, held_after, held_after_all, ended_held, messages_of}
+use Rattle.qls_blocks.specs.Batching.{filler_of, filler_count, last_rid, laid_from}
+use Rattle.qls_replay.specs.Held.{held_after, held_after_all, ended_held, messages_of}
 use Rattle.qls_replay.specs.Ops.{verdict_if}
 use Rattle.qls_model.specs.Messages.{left_by}
 use Rattle.qls_replay.proofs.Above.{left_below}
@@ -27,7 +24,7 @@ use Rattle.qls_log.specs.Standing.{LogThere}
 use Rattle.qls_log.specs.Appending.{FollowRids}
 use Rattle.qls_log.specs.Reads.{ReadsOn, batch_reads, read_in}
 use Rattle.qls_log.proofs.Behind.{batch_whats}
-use Rattle.qls_queue.specs.Live.{LiveState, live, IsSound, QueueReadsOn}
+use Rattle.qls_queue.specs.Live.{live, IsSound, QueueReadsOn}
 use Rattle.qls_queue.specs.Records.{end_kind, end_record, end_records, ended_by, held_ended, HasXid}
 use Rattle.qls_queue.proofs.Xids.{xids_end}
 use Rattle.qls_queue.proofs.Replays.{fillers_held, queue_filled, name_after, last_after, parts}

@@ -1,11 +1,10 @@
 -- A message that is found, and what a take leaves.
-use Rattle.std.proofs.Common.{◌≡◌, ℕ, zero, suc, ◌+◌, ◌<◌, ◌≤◌, Bool, true, false, not, ◌||◌, ◌==◌, cond, List, [], ◌∷◌, map, length, Option, Some, None, Result, Ok, Err, IfOk, IfErr, IfSome, option_map, refl, sym, ap, ◌∙◌, subst, arith}
+use Rattle.std.proofs.Common.{◌≡◌, ℕ, Bool, true, false, not, ◌||◌, ◌==◌, cond, List, [], ◌∷◌, map, Option, Some, None, Result, Ok, Err, IfOk, IfErr, IfSome, option_map, refl, sym, ap, ◌∙◌, subst, arith}
 use Rattle.std.specs.List.{filter, filter_map, list_any}
 use Rattle.std.specs.Result.{is_err}
 use Rattle.qls_model.specs.Bytes.{is_listed}
 use Rattle.qls_model.specs.Machine.{is_ready, taken}
 use Rattle.qls_model.specs.Messages.{message_at, going_if}
-use Rattle.qls_model.specs.declared.machine.Status.{Status}
 use Rattle.qls_model.specs.declared.machine.Status.TheVariants.{Going}
 use Rattle.qls_model.specs.declared.machine.Message.{Message}
 use Rattle.qls_model.specs.declared.machine.QueueState.{QueueState}

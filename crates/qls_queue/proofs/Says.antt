@@ -1,19 +1,16 @@
 -- What a journal says behind a batch.
-use Rattle.std.proofs.Common.{◌≡◌, ℕ, ◌<◌, List, [], ◌∷◌, ◌++◌, map, length, Option, Some, None, IfSome, refl, sym, ap, ◌∙◌, subst, arith}
+use Rattle.std.proofs.Common.{◌≡◌, ℕ, ◌<◌, List, [], ◌∷◌, ◌++◌, map, length, Option, Some, None, IfSome, refl, sym, ap, ◌∙◌, arith}
 use Rattle.std.proofs.lemmas.List.{map-append}
 use Rattle.qls_record.specs.Record.{Record}
 use Rattle.qls_model.specs.declared.machine.QueueState.{QueueState}
 use Rattle.qls_site.specs.Disk.{Disk}
 use Rattle.qls_site.specs.Content.{Content, Tells, moments_since}
 use Rattle.qls_filehdr.specs.declared.FileHeader.{FileHeader}
-use Rattle.qls_enqmap.specs.declared.Held.{Held}
-use Rattle.qls_meaning.specs.Journals.{Headed, Journal}
-use Rattle.qls_meaning.specs.Reading.{Read, journal_reading}
+use Rattle.qls_meaning.specs.Journals.{Headed}
+use Rattle.qls_meaning.specs.Reading.{Read}
 use Rattle.qls_meaning.specs.Damage.{oldest_rid}
-use Rattle.qls_meaning.specs.Meaning.{queue_of}
 use Rattle.qls_meaning.specs.Replay.{queue_after}
 use Rattle.qls_meaning.specs.History.{AllUnmarked}
-use Rattle.qls_meaning.specs.Orderly.{journal_on}
 use Rattle.qls_blocks.specs.Batching.{with_fillers}
 use Rattle.qls_replay.specs.Held.{held_after_all}
 use Rattle.qls_pool.specs.Files.{HeadedFile, OnDisk}

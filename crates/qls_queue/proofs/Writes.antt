@@ -1,5 +1,5 @@
 -- A batch that is appended and then flushed.
-use Rattle.std.proofs.Common.{◌≡◌, ◌⊎◌, inl, inr, ℕ, zero, suc, ◌+◌, ◌-◌, ◌<◌, ◌≤◌, Bool, true, false, cond, ◌||◌, ◌==◌, eqb, List, [], ◌∷◌, ◌++◌, map, length, drop, Option, Some, None, Result, Ok, Err, IsErr, refl, sym, ap, ap₂, ◌∙◌, subst, append_assoc, append-nil, option_map, arith}
+use Rattle.std.proofs.Common.{◌≡◌, inl, inr, ℕ, zero, suc, ◌+◌, ◌-◌, ◌<◌, ◌≤◌, Bool, true, false, cond, ◌||◌, ◌==◌, eqb, List, [], ◌∷◌, ◌++◌, length, drop, Option, Some, None, Result, Ok, Err, IsErr, refl, sym, ap, ◌∙◌, append_assoc, append-nil, option_map, arith}
 use Rattle.std.proofs.lemmas.List.{length-map, length-drop}
 use Rattle.std.proofs.Math.Seq.{drop-append_seam}
 use Rattle.qls_record.specs.Record.{Record}
@@ -7,7 +7,6 @@ use Rattle.qls_site.specs.Disk.{Disk, FileState, file_of, sync_at, changed, all_
 use Rattle.qls_site.specs.Content.{Moment, Content, Tells, Rose, moments_since}
 use Rattle.qls_site.proofs.Told.{file_of-change_file}
 use Rattle.qls_meaning.specs.Reading.{Read}
-use Rattle.qls_meaning.specs.History.{AllUnmarked}
 use Rattle.qls_blocks.specs.Parts.{with_sync, with_syncs}
 use Rattle.qls_pool.specs.Pools.{PoolState}
 use Rattle.qls_pool.specs.Files.{HeadedFile, Carries, is_among}

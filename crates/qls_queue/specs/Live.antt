@@ -1,5 +1,5 @@
 -- A queue held live, and what its journal on a disk says of it.
-use Rattle.std.specs.Prelude.{◌≡◌, ℕ, ◌+◌, ◌^◌, ◌<◌, Bool, false, List, [], ◌++◌, length}
+use Rattle.std.specs.Prelude.{◌≡◌, ◌+◌, ◌^◌, ◌<◌, Bool, false, List, [], ◌++◌, length}
 use Rattle.std.specs.List.{AllByRecursion}
 use Rattle.qls_model.specs.declared.machine.QueueState.{QueueState}
 use Rattle.qls_site.specs.Disk.{Disk}

@@ -12,3 +12,6 @@ mod write;
 
 pub use fault::QueueError;
 pub use live::LiveQueue;
+
+#[cfg(test)]
+mod tests;

@@ -134,8 +134,8 @@ impl LiveQueue {
         ensures refusals { IfErr result (λ e. is_fault e ≡ true) }
         ensures queue { IfOk result (λ _. self.new.queue ≡ after_record head.kind (record_with head xid body) self.old.queue) }
         ensures written { IfOk result (λ _. HasWritten (record_with head xid body ∷ []) self.old.log self.new.log pool.old pool.new (N.drawn serials.old) (N.drawn serials.new) (S.told site.old) (S.told site.new)) }
-        ensures there { IfOk result (λ _. IfSome (S.told site.new) (OnDisk (QueueThere self.new))) }
-        ensures pool { IfOk result (λ _. IfSome (S.told site.new) (OnDisk (IsPoolOf pool.new []))) }
+        ensures there { self.new.ended ≡ false → IfSome (S.told site.new) (OnDisk (QueueThere self.new)) }
+        ensures pool { self.new.ended ≡ false → IfSome (S.told site.new) (OnDisk (IsPoolOf pool.new [])) }
         ensures reading { IfOk result (λ _. Tells (QueueReadsOn self.old self.new) (S.told site.old) (S.told site.new)) }
         ensures others { IfOk result (λ _. Tells (LeavesOthers self.new.log.files) (S.told site.old) (S.told site.new)) }
         ensures spent { result ≡ Err QueueError.Spent → MeetsEnd self.old.log.opening self.old.log.newest (length (plan_of (record_with head xid body ∷ []) self.old.log.used (capacity_in self.old.log.opening) self.old.log.rid).fresh) pool.new }
@@ -175,8 +175,8 @@ impl LiveQueue {
         ensures number { IfOk result (λ number. number ≡ self.old.queue.last + 1) }
         ensures queue { IfOk result (λ number. self.new.queue ≡ with_message (put_message number body xid) self.old.queue) }
         ensures written { IfOk result (λ number. HasWritten (enqueue_of number body xid ∷ []) self.old.log self.new.log pool.old pool.new (N.drawn serials.old) (N.drawn serials.new) (S.told site.old) (S.told site.new)) }
-        ensures there { IfOk result (λ _. IfSome (S.told site.new) (OnDisk (QueueThere self.new))) }
-        ensures pool { IfOk result (λ _. IfSome (S.told site.new) (OnDisk (IsPoolOf pool.new []))) }
+        ensures there { self.new.ended ≡ false → IfSome (S.told site.new) (OnDisk (QueueThere self.new)) }
+        ensures pool { self.new.ended ≡ false → IfSome (S.told site.new) (OnDisk (IsPoolOf pool.new [])) }
         ensures reading { IfOk result (λ _. Tells (QueueReadsOn self.old self.new) (S.told site.old) (S.told site.new)) }
         ensures others { IfOk result (λ _. Tells (LeavesOthers self.new.log.files) (S.told site.old) (S.told site.new)) }
         ensures numbers { result ≡ Err QueueError.Numbers → self.old.queue.last ≡ 2 ^ 62 - 1 }
@@ -222,8 +222,8 @@ impl LiveQueue {
         ensures ended { self.new.ended ≡ is_end result }
         ensures queue { IfOk result (λ _. self.new.queue ≡ taken number xid self.old.queue) }
         ensures written { IfOk result (λ _. HasWritten (dequeue_of self.old.queue.last number xid ∷ []) self.old.log self.new.log pool.old pool.new (N.drawn serials.old) (N.drawn serials.new) (S.told site.old) (S.told site.new)) }
-        ensures there { IfOk result (λ _. IfSome (S.told site.new) (OnDisk (QueueThere self.new))) }
-        ensures pool { IfOk result (λ _. IfSome (S.told site.new) (OnDisk (IsPoolOf pool.new []))) }
+        ensures there { self.new.ended ≡ false → IfSome (S.told site.new) (OnDisk (QueueThere self.new)) }
+        ensures pool { self.new.ended ≡ false → IfSome (S.told site.new) (OnDisk (IsPoolOf pool.new [])) }
         ensures reading { IfOk result (λ _. Tells (QueueReadsOn self.old self.new) (S.told site.old) (S.told site.new)) }
         ensures others { IfOk result (λ _. Tells (LeavesOthers self.new.log.files) (S.told site.old) (S.told site.new)) }
         ensures refusals { (e : QueueError) → take_answer (message_at self.old.queue.messages number) ≡ Err e → result ≡ Err e }
@@ -267,8 +267,8 @@ impl LiveQueue {
         ensures refusals { IfErr result (λ e. is_fault e ≡ true) }
         ensures queue { IfOk result (λ _. self.new.queue ≡ ended_by ends.now self.old.queue) }
         ensures written { IfOk result (λ _. HasWritten (end_records self.old.queue.last ends.now) self.old.log self.new.log pool.old pool.new (N.drawn serials.old) (N.drawn serials.new) (S.told site.old) (S.told site.new)) }
-        ensures there { IfOk result (λ _. IfSome (S.told site.new) (OnDisk (QueueThere self.new))) }
-        ensures pool { IfOk result (λ _. IfSome (S.told site.new) (OnDisk (IsPoolOf pool.new []))) }
+        ensures there { self.new.ended ≡ false → IfSome (S.told site.new) (OnDisk (QueueThere self.new)) }
+        ensures pool { self.new.ended ≡ false → IfSome (S.told site.new) (OnDisk (IsPoolOf pool.new [])) }
         ensures reading { IfOk result (λ _. Tells (QueueReadsOn self.old self.new) (S.told site.old) (S.told site.new)) }
         ensures others { IfOk result (λ _. Tells (LeavesOthers self.new.log.files) (S.told site.old) (S.told site.new)) }
         ensures spent { result ≡ Err QueueError.Spent → MeetsEnd self.old.log.opening self.old.log.newest (length (plan_of (end_records self.old.queue.last ends.now) self.old.log.used (capacity_in self.old.log.opening) self.old.log.rid).fresh) pool.new }

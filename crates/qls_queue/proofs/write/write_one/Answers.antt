@@ -3,7 +3,7 @@ use Rattle.std.specs.Prelude.{slice_index_or}
 use Rattle.qls_shape.specs.declared.Version.TheVariants.{Two}
 use Rattle.qls_record.specs.Record.{Record, record_length}
 use Rattle.qls_record.specs.Head.{record_with}
-use Rattle.qls_meaning.specs.Reading.{Placed, Read}
+use Rattle.qls_meaning.specs.Reading.{Read}
 use Rattle.qls_blocks.specs.Batching.{laid_from}
 use Rattle.qls_log.specs.declared.spot.Spot.{Spot}
 use Rattle.qls_log.specs.Logs.{capacity_in}

@@ -1,4 +1,4 @@
-use Rattle.std.proofs.Common.{◌≡◌, ◌^◌, ◌<◌, List, false, IfSome, sym, ap, subst, ◌∙◌}
+use Rattle.std.proofs.Common.{◌≡◌, List, false, IfSome, sym, ap, subst, ◌∙◌}
 use Rattle.qls_record.specs.Record.{Record}
 use Rattle.qls_site.specs.Content.{Tells}
 use Rattle.qls_decide.specs.declared.End.{End}

@@ -1,4 +1,4 @@
-use Rattle.std.proofs.Common.{◌≡◌, ℕ, List, ap, sym, subst, ◌∙◌}
+use Rattle.std.proofs.Common.{◌≡◌, ℕ, List, ap, sym, ◌∙◌}
 use Rattle.std.specs.List.{filter_map}
 use Rattle.qls_record.specs.declared.Head.{Head}
 use Rattle.qls_record.specs.Head.{record_with}
