@@ -11,7 +11,7 @@ use Rattle.qls_filehdr.specs.declared.FileHeader.{FileHeader}
 use Rattle.qls_meaning.specs.Kept.{Differ, ids_of}
 use Rattle.qls_meaning.specs.Journals.{is_in_use}
 use Rattle.qls_pool.specs.declared.fault.TakeFault.{TakeFault}
-use Rattle.qls_pool.specs.Pools.{PoolState, HandsOut}
+use Rattle.qls_pool.specs.Pools.{PoolState, HandsOut, IsSpent}
 use Rattle.qls_pool.specs.Files.{BlankFile, HeadedFile, BlankThere, IsPoolOf, IsWholePool, IdsDiffer, Carries}
 use Rattle.qls_pool.specs.Taking.{TakesBlank, Heads, SyncsOnce, put_in_use}
 use Rattle.qls_pool.specs.Discipline.{PoolFileStep, PoolFileSteps, IsPoolStep, MeetsFront, IsLeastOnDisk, EndsPoolSteps, StepsBy, Orderly}
@@ -93,30 +93,30 @@ three_orderly home pool blank header headed r a b c d part kib is t o i l q u p 
     any (Some x) (Some y) None t u = absurd u
     any (Some x) (Some y) (Some z) t u = tt
 
-took : (home : PoolId) (pool left : PoolState) (blank : BlankFile) (header : FileHeader) (x y z w : Content) → HandsOut home pool left blank.id
+took : (home : PoolId) (pool left : PoolState) (blank : BlankFile) (header : FileHeader) (x y z w : Content) → (IsSpent home pool → ⊥) → HandsOut home pool left blank.id
     → TakesBlank home pool (Ok blank) x y → Heads {X = HeadedFile} blank.id header (Ok (record { id = blank.id; header = header })) y z → Acts (put_in_use blank.id) z w
     → TakesFile home pool left (record { id = blank.id; header = header }) x w
-took home pool left blank header x y z w hands t u l = record { blank = y; headed = z; hands = hands; obtains = t; heads = u; links = l }
+took home pool left blank header x y z w had hands t u l = record { blank = y; headed = z; unspent = had; hands = hands; obtains = t; heads = u; links = l }
 
-tells_took : (home : PoolId) (pool left : PoolState) (blank : BlankFile) (header : FileHeader) (a b c d : Option Content) → HandsOut home pool left blank.id
+tells_took : (home : PoolId) (pool left : PoolState) (blank : BlankFile) (header : FileHeader) (a b c d : Option Content) → (IsSpent home pool → ⊥) → HandsOut home pool left blank.id
     → Tells (TakesBlank home pool (Ok blank)) a b → Tells (Heads {X = HeadedFile} blank.id header (Ok (record { id = blank.id; header = header }))) b c → Tells (Acts (put_in_use blank.id)) c d
     → Tells (TakesFile home pool left (record { id = blank.id; header = header })) a d
-tells_took home pool left blank header None None None None hands t u l = tt
-tells_took home pool left blank header None None None (Some w) hands t u l = absurd l
-tells_took home pool left blank header None None (Some z) d hands t u l = absurd u
-tells_took home pool left blank header None (Some y) c d hands t u l = absurd t
-tells_took home pool left blank header (Some x) None c d hands t u l = absurd t
-tells_took home pool left blank header (Some x) (Some y) None d hands t u l = absurd u
-tells_took home pool left blank header (Some x) (Some y) (Some z) None hands t u l = absurd l
-tells_took home pool left blank header (Some x) (Some y) (Some z) (Some w) hands t u l = took home pool left blank header x y z w hands t u l
+tells_took home pool left blank header None None None None had hands t u l = tt
+tells_took home pool left blank header None None None (Some w) had hands t u l = absurd l
+tells_took home pool left blank header None None (Some z) d had hands t u l = absurd u
+tells_took home pool left blank header None (Some y) c d had hands t u l = absurd t
+tells_took home pool left blank header (Some x) None c d had hands t u l = absurd t
+tells_took home pool left blank header (Some x) (Some y) None d had hands t u l = absurd u
+tells_took home pool left blank header (Some x) (Some y) (Some z) None had hands t u l = absurd l
+tells_took home pool left blank header (Some x) (Some y) (Some z) (Some w) had hands t u l = took home pool left blank header x y z w had hands t u l
 
 pub takes_told : (home : PoolId) (pool left : PoolState) (blank : BlankFile) (header : FileHeader) (headed linked : HeadedFile) (a b c d : Option Content)
-    → headed ≡ record { id = blank.id; header = header } → linked ≡ headed → HandsOut home pool left blank.id
+    → headed ≡ record { id = blank.id; header = header } → linked ≡ headed → (IsSpent home pool → ⊥) → HandsOut home pool left blank.id
     → Tells (TakesBlank home pool (Ok blank)) a b → Tells (Heads blank.id header (Ok headed)) b c → Tells (Acts (put_in_use headed.id)) c d
     → Tells (TakesFile home pool left linked) a d
-takes_told home pool left blank header headed linked a b c d is same hands t u l =
+takes_told home pool left blank header headed linked a b c d is same had hands t u l =
     subst (λ (h : HeadedFile). Tells (TakesFile home pool left h) a d) (sym (same ∙ is))
-    (tells_took home pool left blank header a b c d hands t
+    (tells_took home pool left blank header a b c d had hands t
     (subst (λ (h : HeadedFile). Tells (Heads blank.id header (Ok h)) b c) is u)
     (subst (λ (h : HeadedFile). Tells (Acts (put_in_use h.id)) c d) is l))
 

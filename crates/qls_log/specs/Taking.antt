@@ -12,10 +12,11 @@ use Rattle.qls_meaning.specs.Dead.{newest_number}
 use Rattle.qls_log.specs.declared.opening.Opening.{Opening}
 use Rattle.qls_log.specs.Standing.{files_on}
 
--- the pool hands the file out, its header is written and synced, and it is put into use
+-- the pool isn't spent and hands the file out, its header is written and synced, and it is put into use
 pub record TakesFile (home : PoolId) (pool left : PoolState) (h : HeadedFile) (old new : Content) : Type 0 where
   pub blank : Content
   pub headed : Content
+  pub unspent : IsSpent home pool → ⊥
   pub hands : HandsOut home pool left h.id
   pub obtains : Obtains home pool.greatest (least_id home pool.files) old blank
   pub heads : Heads {X = Unit {0}} h.id h.header (Ok (tt {0})) blank headed

@@ -110,10 +110,13 @@ ended_in : (home : PoolId) (Z : MachineState) (script rest : List ℕ) (s : Sess
 ended_in home Z script rest s old new none h went =
     let u = h.way in
     let all : commands script ≡ u.done = u.split ∙ ap (λ (r : List ℕ). u.done ++ commands r) none ∙ append-nil u.done in
-    record { start = by all h.start; replies = subst (λ (ms : List Moment). Chain (AtReplies (GoesOn home Z script old.now.answered)) old.now ms) (sym (since_of IsRunStep old new went))
-        (chain_weaken (AtReplies (GoesOnBy home Z script old.now.answered new.now)) (AtReplies (GoesOn home Z script old.now.answered))
-        (at_replies (GoesOnBy home Z script old.now.answered new.now) (GoesOn home Z script old.now.answered) (λ n g. last all n g)) old.now went.since
-        (subst (λ (ms : List Moment). Chain (AtReplies (GoesOnBy home Z script old.now.answered new.now)) old.now ms) (since_of IsRunStep old new went) h.replies)); }
+    record {
+      start = by all h.start;
+      replies = subst (λ (ms : List Moment). Chain (AtReplies (GoesOn home Z script old.now.answered)) old.now ms) (sym (since_of IsRunStep old new went))
+          (chain_weaken (AtReplies (GoesOnBy home Z script old.now.answered new.now)) (AtReplies (GoesOn home Z script old.now.answered))
+          (at_replies (GoesOnBy home Z script old.now.answered new.now) (GoesOn home Z script old.now.answered) (λ n g. last all n g)) old.now went.since
+          (subst (λ (ms : List Moment). Chain (AtReplies (GoesOnBy home Z script old.now.answered new.now)) old.now ms) (since_of IsRunStep old new went) h.replies));
+    }
   where
     by : commands script ≡ h.way.done → NextIsFree home Z (commands script) old.now.disk ⊎ ((h.way.done ≡ []) × (new.now.disk ≡ old.now.disk)) → NextIsFree home Z (commands script) old.now.disk
     by all (inl free) = free

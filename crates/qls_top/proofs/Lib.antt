@@ -15,3 +15,4 @@ pub mod Starting
 pub mod Lines
 pub mod Beginning
 pub mod Replying
+pub mod Having

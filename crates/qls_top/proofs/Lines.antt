@@ -24,7 +24,7 @@ use Rattle.qls_top.specs.Answers.{answer_line, built_line, state_answered, answe
 use Rattle.qls_top.specs.Cutting.{Cutter, kept_of_line, CutsTold, Counted, script_limit}
 use Rattle.qls_pool.specs.Moments.{Arrives, Passes, EndsIn}
 use Rattle.qls_meaning.specs.History.{last_of}
-use Rattle.qls_top.specs.Moments.{AddsAnswer, first_epochs, Quietly, AnswersQuietly, StaysQuiet, IsRunStep, IsSilentStep}
+use Rattle.qls_top.specs.Moments.{AddsAnswer, AtReplies, first_epochs, Quietly, AnswersQuietly, StaysQuiet, IsRunStep, IsSilentStep}
 use Rattle.qls_pool.specs.Serials.{TakesNone, serials_taken}
 use Rattle.qls_top.specs.Serials.{is_exact}
 use Rattle.qls_top.specs.Table.{LogStands, IsCleanTable, log_named}
@@ -34,7 +34,7 @@ use Rattle.qls_top.specs.Stored.{IsStored}
 use Rattle.qls_top.specs.Status.{status_of, IsOfLine}
 use Rattle.qls_top.specs.Run.{IsUnderWay, UnderWay, IsRun, EndsClean, StaysClean, MeetsEnd, SpentFrom, MayBegin, MayNotBegin, Starts, StartsOn, StartsWith, StaysAsItWas, refuses_status, refuses_start, status_of_result, is_exact_status, is_too_long, ReadsBytes, ReadBytes}
 use Rattle.qls_top.proofs.Came.{none_came, none_same, none_next}
-use Rattle.qls_top.proofs.Chains.{Arrives-none, Arrives-then, Arrives-acts, Arrives-passes, Passes-may, Passes-same, Passes-of, since_is, since_of, since_then, silent_arrives, silent_arrives_quietly, answers_nothing, unmarked_front, unmarked_rest}
+use Rattle.qls_top.proofs.Chains.{chain-append, chain_weaken, Arrives-none, Arrives-then, Arrives-acts, Arrives-passes, Passes-may, Passes-same, Passes-of, since_is, since_of, since_then, silent_arrives, silent_arrives_quietly, answers_nothing, unmarked_front, unmarked_rest}
 use Rattle.qls_top.proofs.Fitting.{stored}
 
 -- ---- the answer
@@ -140,6 +140,9 @@ module _ (was : Session) (line : Option Command) (s : Session) (answer : Reply) 
         state = ap (λ p. p.0) r.stepped;
         arrives = Arrives-then IsRunStep old mid new (silent_arrives old mid r.arrives) one;
         quiet = λ q. subst IsQuiet (sym disk) (r.quiet q);
+        last = chain-append (AtReplies (λ n. n ≡ new.now)) old.now r.arrives.since (on_answered (reply_text answer) mid.now ∷ [])
+            (chain_weaken IsSilentStep (AtReplies (λ n. n ≡ new.now)) (λ m n s. inl s.answered) old.now r.arrives.since r.arrives.chain) (inr (sym now), tt);
+        had = r.had;
         answered = ap (λ (m : Moment). m.answered) now ∙ ap (λ (a : List ℕ). a ++ reply_text answer) (answers_nothing old mid r.arrives) ∙ ap (λ p. old.now.answered ++ reply_text p.1) r.stepped;
         fits = fits_same s mid new disk r.fits;
         clean = λ unmarked clean.
@@ -213,7 +216,7 @@ pub cut_split : (script before rest line kept : List ℕ) (done : List (Option C
 cut_split script before rest line kept done split cut is =
     split ∙ ap (λ cs. done ++ cs) (ap (map command_of) cut ∙ ap (λ (c : Option Command). c ∷ commands rest) (sym (ap command_of is ∙ kept_command line)))
 
-step_in : (home : PoolId) (Z : MachineState) (script before rest line kept : List ℕ) (s t : Session) (old mid new : Content) → s.home ≡ home → t.home ≡ home → lines before ≡ line ∷ lines rest → kept ≡ kept_of_line line
+pub step_in : (home : PoolId) (Z : MachineState) (script before rest line kept : List ℕ) (s t : Session) (old mid new : Content) → s.home ≡ home → t.home ≡ home → lines before ≡ line ∷ lines rest → kept ≡ kept_of_line line
     → IsUnderWay home Z script before s old mid → RunsLine s (command_of kept) t mid new → IsUnderWay home Z script rest t old new
 step_in home Z script before rest line kept s t old mid new hs ht cut is u r =
     let c : Option Command = command_of kept in
@@ -380,6 +383,10 @@ line_quieted was s line a b c h r q =
 
 pub quieted_rests : (a b : Option Content) → Tells Quieted a b → Tells StaysQuiet a b
 quieted_rests a b h = Tells-weaken Quieted StaysQuiet a b h (λ x y k. k.1)
+
+pub went_none : (a : Option Content) → Tells (Arrives IsRunStep) a a
+went_none None = tt
+went_none (Some c) = Arrives-none IsRunStep c
 
 pub quieted_none : (a : Option Content) → Tells Quieted a a
 quieted_none None = tt

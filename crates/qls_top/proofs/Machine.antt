@@ -97,3 +97,11 @@ put_stays S T name body r other h = by (queue_named name S.queues) (is_last (que
     by None b e = ap (λ p. p.0) e
     by (Some q) true e = ap (λ p. p.0) e
     by (Some q) false e = absurd (other (q.last + 1) (ap (λ p. p.1) e))
+
+-- ---- what the replies say
+
+pub queue_done : (S T : MachineState) (name : List ℕ) (r : Reply) → queue_named name S.queues ≡ None → (T, r) ≡ step S (command.Queue name None) → r ≡ Done
+queue_done S T name r none h = ap (λ p. p.1) (h ∙ queue_step S name None none)
+
+pub put_number : (S T : MachineState) (name body : List ℕ) (q : QueueState) (r : Reply) → queue_named name S.queues ≡ Some q → (q.last == 2 ^ 62 - 1) ≡ false → (T, r) ≡ step S (command.Put name body None) → r ≡ Number (q.last + 1)
+put_number S T name body q r there more h = ap (λ p. p.1) (h ∙ put_by S name body (Some q) there false more)

@@ -102,7 +102,7 @@ reply_of home S script before rest line kept was old mid n at cut is u said hold
           (subst (λ (p : PoolId). IsStored p (answer_line was.state c).0 n.disk) at holds);
     }
 
-at_replies : (P Q : Moment → Type 0) → ((n : Moment) → P n → Q n) → (m n : Moment) → AtReplies P m n → AtReplies Q m n
+pub at_replies : (P Q : Moment → Type 0) → ((n : Moment) → P n → Q n) → (m n : Moment) → AtReplies P m n → AtReplies Q m n
 at_replies P Q f m n (inl e) = inl e
 at_replies P Q f m n (inr p) = inr (f n p)
 
@@ -142,7 +142,7 @@ line_replies first was (Some x) (Some y) (Some z) (Some script) (Some l) (Some m
 
 -- ---- a run from its first call
 
-again_chain : (P : Moment → Type 0) (m : Moment) (n : ℕ) → Chain (AtReplies P) m (replicate n m)
+pub again_chain : (P : Moment → Type 0) (m : Moment) (n : ℕ) → Chain (AtReplies P) m (replicate n m)
 again_chain P m zero = tt
 again_chain P m (suc n) = (inl refl, again_chain P m n)
 

@@ -1,5 +1,5 @@
 -- What a session's commands leave, where the site tells its content.
-use Rattle.std.proofs.Common.{◌≡◌, inl, inr, ℕ, Bool, true, not, cond, ◌&&◌, ◌||◌, ltb, ◌==◌, ◌+◌, ◌-◌, ◌*◌, ◌<◌, ◌≤◌, List, [], ◌∷◌, ◌++◌, map, length, append-nil, take, Option, Some, None, IfSome, refl, sym, ap, ◌∙◌, subst, arith, get_or}
+use Rattle.std.proofs.Common.{◌≡◌, inl, inr, ℕ, Bool, true, not, cond, ◌&&◌, ◌||◌, ltb, ◌==◌, ◌+◌, ◌-◌, ◌*◌, ◌<◌, ◌≤◌, List, [], ◌∷◌, ◌++◌, map, length, append-nil, take, Option, Some, None, IfSome, refl, sym, ap, ◌∙◌, subst, arith, get_or, ◌⊎◌, ◌^◌, false, eqb}
 use Rattle.std.specs.List.{slice_get}
 use Rattle.std.proofs.lemmas.Option.{slice_get-get_or}
 use Rattle.std.proofs.Math.ListN.{set}
@@ -22,12 +22,12 @@ use Rattle.qls_site.specs.Content.{Content, Tells}
 use Rattle.qls_meaning.specs.Reading.{Read}
 use Rattle.qls_meaning.specs.Journals.{Headed}
 use Rattle.qls_meaning.specs.Dead.{newest_number}
-use Rattle.qls_meaning.specs.Spent.{last_count, no_file_left, greatest_epoch, batch_meets_end}
+use Rattle.qls_meaning.specs.Spent.{last_count, no_file_left, greatest_epoch, new_journal_meets_end, batch_meets_end}
 use Rattle.qls_record.specs.Record.{Record}
 use Rattle.qls_pool.specs.Pools.{PoolState}
 use Rattle.qls_log.specs.declared.opening.Opening.{Opening}
 use Rattle.qls_log.specs.Logs.{LogState, capacity_in}
-use Rattle.qls_log.specs.Standing.{files_on}
+use Rattle.qls_log.specs.Standing.{LogThere, files_on}
 use Rattle.qls_top.specs.declared.queues.QueueLog.{QueueLog}
 use Rattle.qls_top.specs.declared.session.Session.{Session}
 use Rattle.qls_top.specs.Answers.{answer_built}
@@ -35,12 +35,13 @@ use Rattle.qls_top.specs.Moments.{IsSilentStep}
 use Rattle.qls_top.specs.Stored.{records_of, all_records}
 use Rattle.qls_top.specs.Steps.{Stands, MakesLog, WritesMessage, HasWritten, MayMake, MayWrite, EndsMaking, EndsWriting}
 use Rattle.qls_top.specs.Table.{log_named, opening_of, block_of, written, IsLogOf, Keeps, IsTable, Fits, IsCleanTable}
-use Rattle.qls_top.specs.Ends.{room_left, StopsAtEnd}
+use Rattle.qls_top.specs.Ends.{room_left, StopsAtEnd, put_meets_end, MeetsItsEnd}
 use Rattle.qls_top.specs.Sessions.{HasLogs, FitsSession, RunsCommand}
 use Rattle.qls_top.proofs.Chains.{Arrives-none}
-use Rattle.qls_top.proofs.Fitting.{paired, paired_queue, no_journal, reads_there}
+use Rattle.qls_top.proofs.Fitting.{paired, paired_queue, no_journal, stands_there, reads_there}
 use Rattle.qls_top.proofs.Growing.{entry_after, queue_after_change, grown_table, grown_fits, grown_clean}
 use Rattle.qls_top.proofs.Journals.{silent_arrival}
+use Rattle.qls_top.proofs.LogCalls.{newest_there}
 use Rattle.qls_top.proofs.Machine.{new_queue, queue_made, HasPut}
 use Rattle.qls_top.proofs.Tables.{named, queue_named-with_queue, queue_named-name, log_named-set}
 
@@ -61,12 +62,13 @@ tells_with R Q P (Some x) (Some y) p r f = f x y p r
 
 -- ---- a command that calls nothing
 
-pub runs_nothing : (was : Session) (command : Option Command) (s : Session) (reply : Reply) (c : Content) → (s.state, reply) ≡ answer_built was.state command → s.state ≡ was.state → s.pool ≡ was.pool
+pub runs_nothing : (was : Session) (command : Option Command) (s : Session) (reply : Reply) (c : Content) → (MeetsItsEnd was.home was.state command c.now.disk → ⊥) → (s.state, reply) ≡ answer_built was.state command → s.state ≡ was.state → s.pool ≡ was.pool
     → s.queues.items ≡ was.queues.items → FitsSession was c → RunsCommand was command s reply c c
-runs_nothing was command s reply c stepped state pool queues fits = record {
+runs_nothing was command s reply c had stepped state pool queues fits = record {
   stepped = stepped;
   arrives = Arrives-none IsSilentStep c;
   quiet = λ q. q;
+  had = had;
   fits = subst (λ (p : PoolState). Fits p s.queues.items c.now.disk) (sym pool) (subst (λ (qs : List QueueLog). Fits was.pool qs c.now.disk) (sym queues) fits);
   clean = λ unmarked clean. subst (λ (S : MachineState). IsCleanTable S s.queues.items c.now.disk) (sym state) (subst (λ (qs : List QueueLog). IsCleanTable was.state qs c.now.disk) (sym queues) clean);
 }
@@ -76,6 +78,18 @@ same_logs was s home state queues logs =
     subst (λ (p : PoolId). IsTable p s.state s.queues.items) (sym home) (subst (λ (S : MachineState). IsTable was.home S s.queues.items) (sym state) (subst (λ (qs : List QueueLog). IsTable was.home was.state qs) (sym queues) logs))
 
 -- ---- a new queue
+
+name_of_queue : (n m : List ℕ) → ◌≡◌ {A = Option Command} (Some (command.Queue n None)) (Some (command.Queue m None)) → n ≡ m
+name_of_queue n m e = cc
+
+not_a_put : (n m body : List ℕ) → ◌≡◌ {A = Option Command} (Some (command.Queue n None)) (Some (command.Put m body None)) → ⊥
+not_a_put n m body e = cc
+
+-- a queue that is there meets no end
+pub queue_meets_none : (home : PoolId) (S : MachineState) (name : List ℕ) (d : Disk) → (queue_named name S.queues ≡ None → new_journal_meets_end home d ≡ true → ⊥) → MeetsItsEnd home S (Some (command.Queue name None)) d → ⊥
+queue_meets_none home S name d had (inl n) =
+    had (ap (λ m. queue_named m S.queues) (name_of_queue name n.name n.makes) ∙ n.accepted) n.spent
+queue_meets_none home S name d had (inr n) = not_a_put name n.name n.body n.puts
 
 module _ (home : PoolId) (S T : MachineState) (queues : List QueueLog) (name : List ℕ) (t : QueueLog) (table : IsTable home S queues) (h : (T, Done) ≡ step S (command.Queue name None)) (at : t.name ≡ name)
     (log : IsLogOf home name 0 [] t.log) where
@@ -108,6 +122,7 @@ queue_run was s name t pool a b table fits h at log made pools queues = record {
   stepped = h;
   arrives = silent_arrival (opening_of was.home name) refl a b made.stands.arrives;
   quiet = made.stands.quiet;
+  had = queue_meets_none was.home was.state name a.now.disk (λ none. made.had);
   fits =
       subst (λ (p : PoolState). Fits p s.queues.items b.now.disk) (sym pools)
       (subst (λ (qs : List QueueLog). Fits pool qs b.now.disk) (sym queues) (made_fits was.home was.state s.state was.queues.items name t table h at log was.pool pool a b fits made));
@@ -136,6 +151,26 @@ making_ends was T name a b h ends = record {
 }
 
 -- ---- a put
+
+not_a_queue : (n body m : List ℕ) → ◌≡◌ {A = Option Command} (Some (command.Put n body None)) (Some (command.Queue m None)) → ⊥
+not_a_queue n body m e = cc
+
+put_parts : (n body m other : List ℕ) → ◌≡◌ {A = Option Command} (Some (command.Put n body None)) (Some (command.Put m other None)) → (n ≡ m) × (body ≡ other)
+put_parts n body m other e = (name_is e, body_is e)
+  where
+    name_is : ◌≡◌ {A = Option Command} (Some (command.Put n body None)) (Some (command.Put m other None)) → n ≡ m
+    name_is e = cc
+
+    body_is : ◌≡◌ {A = Option Command} (Some (command.Put n body None)) (Some (command.Put m other None)) → body ≡ other
+    body_is e = cc
+
+-- a put that isn't accepted, or had its file, meets none
+pub put_meets_none : (home : PoolId) (S : MachineState) (name body : List ℕ) (d : Disk) → ((q : QueueState) → queue_named name S.queues ≡ Some q → (q.last == 2 ^ 62 - 1) ≡ false → put_meets_end home q body d ≡ true → ⊥)
+    → MeetsItsEnd home S (Some (command.Put name body None)) d → ⊥
+put_meets_none home S name body d had (inl n) = not_a_queue name body n.name n.makes
+put_meets_none home S name body d had (inr n) =
+    let parts = put_parts name body n.name n.body n.puts in
+    had n.queue (ap (λ m. queue_named m S.queues) parts.0 ∙ n.there) n.more (ap (λ b. put_meets_end home n.queue b d) parts.1 ∙ n.spent)
 
 written-append : (ms : List Message) (m : Message) → written (ms ++ m ∷ []) ≡ written ms + block_of m
 written-append [] m = omega arith
@@ -258,6 +293,37 @@ module _ (home : PoolId) (S T : MachineState) (queues : List QueueLog) (name bod
       turned : (x : ℕ) → x * 1024 ≡ 1024 * x
       turned x = omega arith
 
+  -- on the disk on which the log stands, the room that is left is what the log has
+  same_room : (d : Disk) → LogThere t.log d → capacity_in t.log.opening - t.log.used ≤ room_left home put.queue d
+  same_room d there =
+      let k = put_keeps.log in
+      let nn = newest_there (capacity_in t.log.opening) (t.log.newest + 1 - length t.log.files) t.log.newest t.log.files (files_on t.log.opening d) k.sound.some k.sound.numbers there.there.files in
+      let number : newest_number (files_on (opening_of home put.queue.name) d) ≡ t.log.newest = ap (λ (o : Opening). newest_number (files_on o d)) (sym k.opening) ∙ nn in
+      let cap : ℕ = home.kib * 1024 in
+      let blocks : t.log.used + cap * t.log.newest ≡ cap + written put.queue.messages =
+      subst (λ (o : Opening). t.log.used + capacity_in o * t.log.newest ≡ capacity_in o + written put.queue.messages) k.opening k.blocks in
+      let is : capacity_in t.log.opening ≡ cap = ap capacity_in k.opening in
+      subst (λ x. capacity_in t.log.opening - t.log.used ≤ x - written put.queue.messages) (ap (λ x. x * t.log.newest) (turned home.kib) ∙ ap (λ x. 1024 * home.kib * x) (sym number)) (omega (arith, blocks, is))
+    where
+      turned : (x : ℕ) → x * 1024 ≡ 1024 * x
+      turned x = omega arith
+
+  pub put_had : (l : LogState) (pool pools : PoolState) (a b : Content) → Fits pools queues a.now.disk → WritesMessage message t.log l pool a b → (q : QueueState) → queue_named name S.queues ≡ Some q → put_meets_end home q body a.now.disk ≡ true → ⊥
+  put_had l pool pools a b fits w q named meets =
+      let k = put_keeps.log in
+      let d : Disk = a.now.disk in
+      let same : q ≡ put.queue = some_is (sym named ∙ put.there) in
+      let stands = stands_there d (log_named name queues) t entry (fits.logs name) in
+      let own : batch_meets_end home d (files_on (opening_of home put.queue.name) d) true (room_left home put.queue d) (block_of message) ≡ true =
+      subst (λ (m : Message). batch_meets_end home d (files_on (opening_of home put.queue.name) d) true (room_left home put.queue d) (block_of m) ≡ true) (sym message_is)
+      (subst (λ (r : QueueState). put_meets_end home r body d ≡ true) same meets) in
+      w.had
+      (subst (λ (o : Opening). batch_meets_end o.home d (files_on o d) true (capacity_in t.log.opening - t.log.used) (block_of message) ≡ true) (sym k.opening)
+      (still_ends d (files_on (opening_of home put.queue.name) d) (room_left home put.queue d) (capacity_in t.log.opening - t.log.used) (block_of message) (same_room d stands) own))
+    where
+      some_is : {A : Type 0} {x y : A} → Some x ≡ Some y → x ≡ y
+      some_is e = cc
+
   pub writing_ends : (a b : Content) → EndsWriting message t.log a b → StopsAtEnd home S (Some (command.Put name body None)) a b
   writing_ends a b ends =
       let k = put_keeps.log in
@@ -288,6 +354,8 @@ module _ (was s : Session) (name body : List ℕ) (n at : ℕ) (t dflt : QueueLo
     stepped = h;
     arrives = silent_arrival t.log.opening (ap (λ (o : Opening). o.epoch) (opening_is was.home was.state s.state was.queues.items name body n at t dflt table put range there entry first)) a b w.stands.arrives;
     quiet = w.stands.quiet;
+    had = put_meets_none was.home was.state name body a.now.disk
+        (λ q named more meets. put_had was.home was.state s.state was.queues.items name body n at t dflt table put range there entry first l pool was.pool a b fits w q named meets);
     fits =
         subst (λ (p : PoolState). Fits p s.queues.items b.now.disk) (sym pools)
         (subst (λ (qs : List QueueLog). Fits pool qs b.now.disk) (sym queues) (put_fits was.home was.state s.state was.queues.items name body n at t dflt table put range there entry first l was.pool pool a b fits w.stands));

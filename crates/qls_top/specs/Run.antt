@@ -5,7 +5,7 @@ use Rattle.qls_model.specs.declared.machine.PoolId.{PoolId}
 use Rattle.qls_model.specs.declared.machine.Command.{Command}
 use Rattle.qls_model.specs.Machine.{MachineState, empty_state}
 use Rattle.qls_shape.specs.Claims.{each}
-use Rattle.qls_site.specs.Disk.{Image, IsQuiet, full}
+use Rattle.qls_site.specs.Disk.{Disk, Image, IsQuiet, full}
 use Rattle.qls_site.specs.Content.{Content, Moment, moments_since}
 use Rattle.qls_meaning.specs.Journals.{in_use, empties}
 use Rattle.qls_meaning.specs.Damage.{id_claim, pool_claim}
@@ -98,6 +98,35 @@ EndsSpent home old new script = SpentFrom home empty_state old new script
 
 abbrev pub EndsSpentIn : Session → Option Content → Option Content → Option (List ℕ) → Type 0
 EndsSpentIn s old new script = SpentFrom s.home s.state old new script
+
+-- ---- a run to its end that had each file that it needed
+
+-- the first of these commands, where there is one, doesn't meet its end on the disk
+abbrev pub NextIsFree : PoolId → MachineState → List (Option Command) → Disk → Type 0
+NextIsFree home S [] d = Unit {0}
+NextIsFree home S (c ∷ cs) d = MeetsItsEnd home S (built_line c) d → ⊥
+
+-- these are the answers to the first of the commands, and the one after them doesn't meet its end
+pub record GoesOn (home : PoolId) (S : MachineState) (script before : List ℕ) (n : Moment) : Type 0 where
+  pub done : List (Option Command)
+  pub rest : List (Option Command)
+  pub split : commands script ≡ done ++ rest
+  pub answered : n.answered ≡ before ++ answers_text S done
+  pub free : NextIsFree home (state_answered S done) rest n.disk
+
+-- at the start and at each moment at which bytes were answered
+pub record HadItsFiles (home : PoolId) (S : MachineState) (script : List ℕ) (old new : Content) : Type 0 where
+  pub start : NextIsFree home S (commands script) old.now.disk
+  pub replies : Chain (AtReplies (GoesOn home S script old.now.answered)) old.now (moments_since old new)
+
+abbrev pub HadFrom : PoolId → MachineState → Option Content → Option Content → Option (List ℕ) → Type 0
+HadFrom home S (Some old) (Some new) (Some script) = HadItsFiles home S script old new
+HadFrom home S None new script = Unit {0}
+HadFrom home S (Some old) None script = Unit {0}
+HadFrom home S (Some old) (Some new) None = Unit {0}
+
+abbrev pub HadFiles : PoolId → Option Content → Option Content → Option (List ℕ) → Type 0
+HadFiles home old new script = HadFrom home empty_state old new script
 
 -- ---- at each reply
 

@@ -1,5 +1,5 @@
 -- What a session's calls on a log do, where the site tells its content.
-use Rattle.std.specs.Prelude.{◌≡◌, ℕ, ◌+◌, ◌*◌, ◌^◌, ◌<◌, true, false, List, [], ◌++◌, map}
+use Rattle.std.specs.Prelude.{◌≡◌, ℕ, ◌+◌, ◌-◌, ◌*◌, ◌^◌, ◌<◌, true, false, List, [], ◌++◌, map}
 use Rattle.qls_model.specs.declared.machine.PoolId.{PoolId}
 use Rattle.qls_model.specs.declared.machine.Message.{Message}
 use Rattle.qls_site.specs.Content.{Content}
@@ -26,14 +26,16 @@ pub record Stands (o : Opening) (l : LogState) (pools : PoolState) (old new : Co
   pub limit : pools.greatest < 2 ^ 62
   pub there : LogThere l new.now.disk
 
--- a new log, of which nothing is read where the files that came into use were unmarked
+-- a new log, for which there was a file, and of which nothing is read where the files that came into use were unmarked
 pub record MakesLog (o : Opening) (l : LogState) (pools : PoolState) (old new : Content) : Type 0 where
   pub stands : Stands o l pools old new
+  pub had : new_journal_meets_end o.home old.now.disk ≡ true → ⊥
   pub begins : AllUnmarked old.now stands.arrives.since → IsRead l [] new.now.disk
 
--- what is read of it is what was read, and then the message
+-- where the message needs one there was a file for it, and what is read of the log is what was read, and then the message
 pub record WritesMessage (m : Message) (was l : LogState) (pools : PoolState) (old new : Content) : Type 0 where
   pub stands : Stands was.opening l pools old new
+  pub had : batch_meets_end was.opening.home old.now.disk (files_on was.opening old.now.disk) true (capacity_in was.opening - was.used) (block_of m) ≡ true → ⊥
   pub reads : AllUnmarked old.now stands.arrives.since → (reads : List Read) → IsRead was reads old.now.disk
       → (more : List Read) × IsRead l (reads ++ more) new.now.disk × (map (λ r. r.what) more ≡ records_of m)
 

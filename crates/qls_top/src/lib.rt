@@ -16,7 +16,7 @@ ghost use Rattle.qls_pool.specs.Moments.{Passes};
 ghost use Rattle.qls_pool.specs.Serials.{DrawsTaken};
 ghost use Rattle.qls_top.specs.Moments.{AnswersQuietly, IsRunStep};
 ghost use Rattle.qls_top.specs.Serials.{is_exact};
-ghost use Rattle.qls_top.specs.Run.{ForJob, RunsToEnd, ReadsBytes, Starts, is_too_long, is_status, StartsWith, MayNotBegin, EndsClean, RepliesStored, RepliesClean, IfJob, EndsSpent, EndsSpentIn, TakesFilesInOrder, is_exact_status};
+ghost use Rattle.qls_top.specs.Run.{ForJob, RunsToEnd, ReadsBytes, Starts, is_too_long, is_status, StartsWith, MayNotBegin, EndsClean, RepliesStored, RepliesClean, HadFiles, HadFrom, IfJob, EndsSpent, EndsSpentIn, TakesFilesInOrder, is_exact_status};
 ghost use Rattle.qls_top.specs.Sessions.{HasLogs, FitsSession};
 ghost use Rattle.qls_top.specs.Status.{IsOfLines};
 
@@ -60,6 +60,7 @@ pub fn run<R: Source, S: Site, N: Serials>(
     ensures untouched_source { result ≡ 2 → R.left source.new ≡ R.left source.old }
     ensures untouched_serials { result ≡ 2 → N.drawn serials.new ≡ N.drawn serials.old }
     ensures done { result ≡ 0 → ForJob (job_of (map string_bytes words.now)) (λ home. RunsToEnd home (S.told site.old) (S.told site.new) (R.left source.old) (R.left source.new)) }
+    ensures had { result ≡ 0 → ForJob (job_of (map string_bytes words.now)) (λ home. HadFiles home (S.told site.old) (S.told site.new) (R.left source.old)) }
     ensures quiet { Tells AnswersQuietly (S.told site.old) (S.told site.new) }
     ensures replied { IfJob (job_of (map string_bytes words.now)) (λ home. RepliesStored home (S.told site.old) (S.told site.new) (R.left source.old)) }
     ensures orderly { Tells TakesFilesInOrder (S.told site.old) (S.told site.new) }
@@ -91,6 +92,7 @@ fn run_script<R: Source, S: Site, N: Serials>(
 ) -> Result<(), Fault>
     requires pool { (is_partition home.part ≡ true) × (is_kib home.kib ≡ true) }
     ensures done { IfOk result (λ _. RunsToEnd home (S.told site.old) (S.told site.new) (R.left source.old) (R.left source.new)) }
+    ensures had { IfOk result (λ _. HadFiles home (S.told site.old) (S.told site.new) (R.left source.old)) }
     ensures orderly { Tells TakesFilesInOrder (S.told site.old) (S.told site.new) }
     ensures quiet { Tells AnswersQuietly (S.told site.old) (S.told site.new) }
     ensures replied { RepliesStored home (S.told site.old) (S.told site.new) (R.left source.old) }
@@ -123,6 +125,7 @@ fn run_lines<R: Source, S: Site, N: Serials>(
     requires logs { HasLogs session.old }
     requires fits { IfSome (S.told site.old) (FitsSession session.old) }
     ensures done { IfOk result (λ _. EndsClean session.old (S.told site.old) (S.told site.new) (R.left source.old) (R.left source.new)) }
+    ensures had { IfOk result (λ _. HadFrom session.old.home session.old.state (S.told site.old) (S.told site.new) (R.left source.old)) }
     ensures went { Tells (Passes IsRunStep) (S.told site.old) (S.told site.new) }
     ensures quiet { Tells AnswersQuietly (S.told site.old) (S.told site.new) }
     ensures replied { RepliesClean session.old (S.told site.old) (S.told site.new) (R.left source.old) }

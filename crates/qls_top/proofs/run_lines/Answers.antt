@@ -1,11 +1,11 @@
-use Rattle.std.proofs.Common.{rules, ◌≡◌, Bool, true, List, ℕ, Result, Err, ◌∙◌, refl, subst, arith}
+use Rattle.std.proofs.Common.{rules, ◌≡◌, Bool, true, List, ℕ, Result, Err, ◌∙◌, refl, subst, arith, sym, ap}
 use Rattle.qls_top.specs.declared.fault.Fault.{Fault}
 use Rattle.qls_top.specs.declared.fault.Fault.TheVariants as fault
 use Rattle.qls_top.specs.Answers.{built_line}
-use Rattle.qls_top.specs.Run.{ReadsBytes, is_too_long}
+use Rattle.qls_top.specs.Run.{ReadsBytes, is_too_long, UnderWay}
 use Rattle.qls_site.specs.Content.{Tells}
 use Rattle.qls_command.specs.Lines.{command_of}
-use Rattle.qls_top.specs.Cutting.{CutsTold, script_limit}
+use Rattle.qls_top.specs.Cutting.{CutsTold, script_limit, Cutter}
 use Rattle.qls_top.specs.Moments.{IsRunStep}
 use Rattle.qls_pool.specs.Serials.{DrawsTaken}
 use Rattle.qls_top.specs.Serials.{is_exact}
@@ -13,10 +13,31 @@ use Rattle.qls_top.specs.Ends.{StopsAtEnd}
 use Rattle.qls_top.specs.Sessions.{RunsLine, RepliesLine}
 use Rattle.qls_top.proofs.Chains.{went_then}
 use Rattle.qls_top.proofs.CutLines.{counted_then}
-use Rattle.qls_top.proofs.Drawing.{drawn_then}
-use Rattle.qls_top.proofs.Lines.{line_run, line_went, line_passes, line_fits, line_quieted, line_clean, line_spent, read_so_far, script_ended, fails_quietly, quieted_rests}
-use Rattle.qls_top.proofs.Replying.{line_replies}
+use Rattle.qls_top.proofs.Drawing.{drawn_then, drawn_none, tells_none}
+use Rattle.qls_top.proofs.Lines.{line_run, line_went, line_passes, line_fits, line_quieted, line_clean, line_spent, read_so_far, script_ended, fails_quietly, quieted_rests, begun, quieted_none, clean_none, went_none}
+use Rattle.qls_top.proofs.Having.{line_had, script_had, HadWay, had_none}
+use Rattle.qls_top.proofs.Replying.{line_replies, replies_none}
 use Rattle.qls_top.proofs.run_lines.Goals as goal
+
+pub loop-line-init : goal.loop-line-init
+loop-line-init g c = record {
+  home = refl;
+  logs = c.requires.logs;
+  fits = c.requires.fits;
+  went = went_none (g.S.Site.told c.args.site.now);
+  quieted = quieted_none (g.S.Site.told c.args.site.now);
+  clean = clean_none c.args.session.now (g.S.Site.told c.args.site.now);
+  drawn = drawn_none true _ _ _ _ (tells_none (g.S.Site.told c.args.site.now)) refl;
+  replied = replies_none c.args.session.now (g.S.Site.told c.args.site.now) (g.R.Source.left c.args.source.now);
+  under_way = subst (λ (w : List ℕ). UnderWay c.args.session.now.home c.args.session.now.state (g.S.Site.told c.args.site.now) (g.S.Site.told c.args.site.now) (g.R.Source.left c.args.source.now) w (g.R.Source.left c.args.source.now) c.args.session.now)
+      (sym (ap (λ (k : Cutter). k.waiting) c.in_ok-script.ensures.fresh)) (begun c.args.session.now (g.S.Site.told c.args.site.now) (g.R.Source.left c.args.source.now));
+  had = subst (λ (w : List ℕ). HadWay c.args.session.now.home c.args.session.now.state (g.S.Site.told c.args.site.now) (g.S.Site.told c.args.site.now) (g.R.Source.left c.args.source.now) w (g.R.Source.left c.args.source.now) c.args.session.now)
+      (sym (ap (λ (k : Cutter). k.waiting) c.in_ok-script.ensures.fresh)) (had_none c.args.session.now (g.S.Site.told c.args.site.now) (g.R.Source.left c.args.source.now));
+  counted = search rules;
+  sources = search rules;
+  sites = search rules;
+  draws = search rules;
+}
 
 pub loop-line-preserved : goal.loop-line-preserved
 loop-line-preserved g c =
@@ -40,6 +61,8 @@ loop-line-preserved g c =
           (subst (λ (bytes : List ℕ). Tells (RepliesLine c.loop-line.session (command_of bytes)) (g.S.Site.told c.loop-line.site) (g.S.Site.told c.run_line.new.site)) c.deref.ensures.value c.in_ok-run_line.ensures.replied);
       under_way = line_run c.args.session.now.home c.args.session.now.state _ (g.S.Site.told c.loop-line.site) _ _ (g.R.Source.left c.loop-line.source) _ c.loop-line.script c.next_line.new.self c.next_line.new.line.items
           c.loop-line.session c.run_line.new.self i.home (c.in_ok-run_line.ensures.home ∙ i.home) i.under_way cut ran;
+      had = line_had c.args.session.now.home c.args.session.now.state _ (g.S.Site.told c.loop-line.site) _ _ (g.R.Source.left c.loop-line.source) _ c.loop-line.script c.next_line.new.self c.next_line.new.line.items
+          c.loop-line.session c.run_line.new.self i.home (c.in_ok-run_line.ensures.home ∙ i.home) i.had cut i.went ran;
       counted = counted_then script_limit c.loop-line.script.budget c.next_line.new.self.budget _ (g.R.Source.left c.loop-line.source) _ true c.in_ok-next_line.field-0 i.counted c.in_ok-next_line.ensures.counted;
       sources = omega (arith, i.sources, c.in_ok-next_line.ensures.kept);
       sites = omega (arith, i.sites, c.in_ok-run_line.ensures.causes.sites_kept);
@@ -91,3 +114,9 @@ returns-clause-done g c =
     let cut = subst (λ (b : Bool). CutsTold c.loop-line.script (g.R.Source.left c.loop-line.source) c.next_line.new.self (g.R.Source.left c.next_line.new.source) c.next_line.new.line.items b) c.if-branch.false c.in_ok-next_line.ensures.cut in
     script_ended c.args.session.now.home c.args.session.now.state _ _ _ (g.R.Source.left c.loop-line.source) _ c.loop-line.script c.next_line.new.self c.next_line.new.line.items c.args.session.now c.loop-line.session i.home refl refl
     i.under_way i.logs i.fits (quieted_rests _ _ i.quieted) i.clean cut
+
+pub returns-clause-had : goal.returns-clause-had
+returns-clause-had g c =
+    let i = c.loop-line.invariant in
+    let cut = subst (λ (b : Bool). CutsTold c.loop-line.script (g.R.Source.left c.loop-line.source) c.next_line.new.self (g.R.Source.left c.next_line.new.source) c.next_line.new.line.items b) c.if-branch.false c.in_ok-next_line.ensures.cut in
+    script_had c.args.session.now.home c.args.session.now.state _ _ _ (g.R.Source.left c.loop-line.source) _ c.loop-line.script c.next_line.new.self c.next_line.new.line.items script_limit c.loop-line.session i.had i.counted cut i.went

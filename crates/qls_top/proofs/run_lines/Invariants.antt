@@ -6,6 +6,7 @@ use Rattle.qls_top.specs.Moments.{IsRunStep}
 use Rattle.qls_pool.specs.Serials.{DrawsTaken}
 use Rattle.qls_top.specs.Run.{UnderWay, StaysClean, RepliesClean}
 use Rattle.qls_top.specs.Sessions.{HasLogs, FitsSession}
+use Rattle.qls_top.proofs.Having.{HadWay}
 use Rattle.qls_top.proofs.Lines.{Quieted}
 use Rattle.qls_top.proofs.run_lines.Given as goal
 
@@ -20,6 +21,7 @@ invariant-loop-line g l = record {
   drawn : DrawsTaken true (g.S.Site.told l.fn.site) (g.S.Site.told l.site) (g.N.Serials.drawn l.fn.serials) (g.N.Serials.drawn l.serials);
   replied : RepliesClean l.fn.session (g.S.Site.told l.fn.site) (g.S.Site.told l.site) (g.R.Source.left l.fn.source);
   under_way : UnderWay l.fn.session.home l.fn.session.state (g.S.Site.told l.fn.site) (g.S.Site.told l.site) (g.R.Source.left l.fn.source) l.script.waiting (g.R.Source.left l.source) l.session;
+  had : HadWay l.fn.session.home l.fn.session.state (g.S.Site.told l.fn.site) (g.S.Site.told l.site) (g.R.Source.left l.fn.source) l.script.waiting (g.R.Source.left l.source) l.session;
   counted : Counted script_limit (g.R.Source.left l.fn.source) l.script.budget (g.R.Source.left l.source) (Ok true);
   sources : g.R.Source.faults l.fn.source ≤ g.R.Source.faults l.source;
   sites : g.S.Site.faults l.fn.site ≤ g.S.Site.faults l.site;

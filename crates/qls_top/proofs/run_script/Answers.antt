@@ -5,9 +5,10 @@ use Rattle.qls_top.specs.declared.fault.Fault.{Fault}
 use Rattle.qls_top.specs.declared.fault.Fault.TheVariants as fault
 use Rattle.qls_top.specs.Status.{fault_of_scan}
 use Rattle.qls_top.specs.Serials.{is_exact}
-use Rattle.qls_top.specs.Run.{Starts, RunsToEnd, EndsClean}
+use Rattle.qls_top.specs.Run.{Starts, RunsToEnd, EndsClean, HadFrom, HadFiles}
 use Rattle.qls_top.proofs.Drawing.{drawn_none}
 use Rattle.qls_top.proofs.Beginning.{looked, looked_in_order, looked_quietly, looked_none, lines_in_order, lines_quiet, lines_drawn, if_ok, run_done, run_spent, fits_started, logs_started, starts_scanned, starts_used, starts_wanting, starts_ready}
+use Rattle.qls_top.proofs.Having.{run_had}
 use Rattle.qls_top.proofs.Replying.{run_replies, looked_replies}
 use Rattle.qls_top.proofs.run_script.Goals as goal
 
@@ -110,3 +111,9 @@ returns-in_err-pool-clause-replied g c = looked_replies c.args.home _ _ _ (looke
 pub returns-clause-replied : goal.returns-clause-replied
 returns-clause-replied g c =
     run_replies c.args.home c.new-session.result _ _ _ _ c.new-session.ensures.home c.new-session.ensures.state c.new-session.ensures.queues (looked _ _ c.scan.ensures.rising c.scan.ensures.told) c.run_lines.ensures.went c.run_lines.ensures.replied
+
+pub returns-clause-had : goal.returns-clause-had
+returns-clause-had g c =
+    if_ok (HadFrom c.new-session.result.home c.new-session.result.state (g.S.Site.told c.scan.new.site) (g.S.Site.told c.run_lines.new.site) (g.R.Source.left c.args.source.now))
+    (HadFiles c.args.home (g.S.Site.told c.args.site.now) (g.S.Site.told c.run_lines.new.site) (g.R.Source.left c.args.source.now)) c.run_lines.result c.run_lines.ensures.had
+    (run_had c.args.home c.new-session.result _ _ _ _ c.new-session.ensures.home c.new-session.ensures.state (looked _ _ c.scan.ensures.rising c.scan.ensures.told) c.run_lines.ensures.went)

@@ -1,5 +1,5 @@
 use Rattle.qls_pool.specs.declared.file.Linked.{Linked}
-use Rattle.std.proofs.Common.{◌≡◌, [], ◌∷◌, Ok, Err, Result, sym, subst, ap, ◌∙◌, rules}
+use Rattle.std.proofs.Common.{rules, ◌≡◌, [], ◌∷◌, Ok, Err, Result, sym, subst, ap, ◌∙◌}
 use Rattle.qls_filehdr.specs.declared.FileHeader.{FileHeader}
 use Rattle.qls_pool.specs.Files.{HeadedFile, BlankThere, IsPoolOf}
 use Rattle.qls_pool.specs.Taking.{TakesBlank}
@@ -42,7 +42,8 @@ returns-in_err-linked-clause-orderly g c =
 pub returns-clause-told : goal.returns-clause-told
 returns-clause-told g c =
     takes_told c.args.opening.now.home c.args.pool.now c.blank.new.self c.in_ok-blank.blank c.header-header.result c.in_ok-headed.headed c.in_ok-linked.linked _ _ _ _
-    c.in_ok-headed.ensures.headed c.in_ok-linked.ensures.linked c.in_ok-blank.ensures.handed c.in_ok-blank.ensures.told c.in_ok-headed.ensures.told c.in_ok-linked.ensures.told
+    c.in_ok-headed.ensures.headed c.in_ok-linked.ensures.linked (λ spent. search (rules, c.in_ok-blank.ensures.spent, c.in_ok-blank.was, spent)) c.in_ok-blank.ensures.handed c.in_ok-blank.ensures.told
+    c.in_ok-headed.ensures.told c.in_ok-linked.ensures.told
 
 pub returns-clause-syncs : goal.returns-clause-syncs
 returns-clause-syncs g c =

@@ -1,5 +1,6 @@
-use Rattle.std.proofs.Common.{rules, ◌≡◌, Err, ap, ◌∙◌, subst}
+use Rattle.std.proofs.Common.{rules, ◌≡◌, ◌⊎◌, inl, inr, Result, Ok, Err, ap, ◌∙◌, subst}
 use Rattle.qls_pool.specs.Pools.{PoolState, IsSpent}
+use Rattle.qls_log.specs.declared.fault.LogError.{LogError}
 use Rattle.qls_log.specs.declared.fault.LogError.TheVariants as log
 use Rattle.qls_top.specs.Status.{fault_of_log}
 use Rattle.qls_top.specs.Table.{opening_of}
@@ -14,7 +15,12 @@ returns-in_err-log-clause-spent g c = λ e.
     made_ends c.args.home c.args.name c.args.pool.now (g.S.Site.told c.args.site.now) _ c.requires.start (arrives_spent _ (opening_of c.args.home c.args.name) c.create.result _ _ was c.create.ensures.went)
     (ap g.S.Site.told (c.create.ensures.no_call was)) (subst (λ (p : PoolState). IsSpent c.args.home p) (c.create.ensures.spent_pool was) (c.create.ensures.spent was))
 
+-- a log that was made had its file
+not_ok : {X : Type 0} {x : X} → (◌≡◌ {A = Result X LogError} (Ok x) (Err log.Spent)) ⊎ (◌≡◌ {A = Result X LogError} (Ok x) (Err log.Memory)) → ⊥
+not_ok (inl e) = cc
+not_ok (inr e) = cc
+
 pub returns-clause-told : goal.returns-clause-told
 returns-clause-told g c =
     let e = c.in_ok-log.ensures in
-    made c.args.home c.args.name c.in_ok-log.log c.args.pool.now _ (g.S.Site.told c.args.site.now) _ c.requires.start e.limit (arrives_ok _ (opening_of c.args.home c.args.name) c.in_ok-log.log _ _ e.went) e.quiet e.pool e.there e.begins
+    made c.args.home c.args.name c.in_ok-log.log c.args.pool.now _ (g.S.Site.told c.args.site.now) _ c.requires.start (λ spent. not_ok (e.at_end spent)) e.limit (arrives_ok _ (opening_of c.args.home c.args.name) c.in_ok-log.log _ _ e.went) e.quiet e.pool e.there e.begins

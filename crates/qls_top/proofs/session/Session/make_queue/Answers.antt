@@ -19,8 +19,8 @@ use Rattle.qls_top.specs.Table.{opening_of}
 use Rattle.qls_top.proofs.Chains.{ends_err, Passes-of}
 use Rattle.qls_top.proofs.Drawing.{drawn_none, drawn_any, tells_none}
 use Rattle.qls_top.proofs.Journals.{silent_arrival, silent_passing}
-use Rattle.qls_top.proofs.Machine.{queue_stays}
-use Rattle.qls_top.proofs.SessionSteps.{if_some, tells_same, tells_with, runs_nothing, same_logs, queue_run, queue_logs, may_make, making_ends}
+use Rattle.qls_top.proofs.Machine.{queue_stays, queue_done}
+use Rattle.qls_top.proofs.SessionSteps.{if_some, tells_same, tells_with, runs_nothing, queue_meets_none, same_logs, queue_run, queue_logs, may_make, making_ends}
 use Rattle.qls_top.proofs.session.Session.make_queue.Goals as goal
 
 pub returns-in_err-reply-clause-drawn : goal.returns-in_err-reply-clause-drawn
@@ -36,7 +36,8 @@ returns-in_default g c =
       logs = same_logs was s refl state refl c.requires.logs;
       told = subst (λ (k : Command). Tells (RunsCommand was (Some k) s c.in_ok-reply.reply) (g.S.Site.told c.args.site.now) (g.S.Site.told c.args.site.now)) (sym c.requires.command)
           (tells_same (RunsCommand was (Some (command.Queue c.args.name.now None)) s c.in_ok-reply.reply) (FitsSession was) (g.S.Site.told c.args.site.now) c.requires.fits
-          (λ x f. runs_nothing was (Some (command.Queue c.args.name.now None)) s c.in_ok-reply.reply x stepped state refl refl f));
+          (λ x f. runs_nothing was (Some (command.Queue c.args.name.now None)) s c.in_ok-reply.reply x
+          (queue_meets_none was.home was.state c.args.name.now x.now.disk (λ none spent. c.in_default.not-Done (queue_done was.state c.step.new.state c.args.name.now c.in_ok-reply.reply none stepped))) stepped state refl refl f));
       drawn = drawn_none true _ _ _ _ (tells_none (g.S.Site.told c.args.site.now)) refl;
       spent = λ e. absurd (cc);
       home = refl;

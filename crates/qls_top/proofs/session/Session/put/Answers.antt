@@ -1,4 +1,4 @@
-use Rattle.std.proofs.Common.{true, rules, arith, ◌≡◌, ◌<◌, List, Some, None, Err, refl, sym, ap, ◌∙◌, subst, length, take}
+use Rattle.std.proofs.Common.{true, rules, arith, ◌≡◌, ◌+◌, ◌<◌, List, Some, None, Err, refl, sym, ap, ◌∙◌, subst, length, take}
 use Rattle.std.specs.Vec.{with_item}
 use Rattle.qls_model.specs.declared.machine.Message.{Message}
 use Rattle.qls_model.specs.declared.machine.Status.TheVariants.{Ready}
@@ -26,8 +26,8 @@ use Rattle.qls_top.proofs.Chains.{ends_err}
 use Rattle.qls_top.proofs.Drawing.{drawn_none, tells_none}
 use Rattle.qls_top.proofs.Fitting.{stands_there}
 use Rattle.qls_top.proofs.Journals.{silent_passing}
-use Rattle.qls_top.proofs.Machine.{put_answered, put_stays}
-use Rattle.qls_top.proofs.SessionSteps.{if_some, tells_same, tells_with, runs_nothing, same_logs, entry_is, may_write, opening_is, writing_ends, put_run, put_logs}
+use Rattle.qls_top.proofs.Machine.{put_answered, put_number, put_stays}
+use Rattle.qls_top.proofs.SessionSteps.{if_some, tells_same, tells_with, runs_nothing, put_meets_none, same_logs, entry_is, may_write, opening_is, writing_ends, put_run, put_logs}
 use Rattle.qls_top.proofs.session.Session.put.Goals as goal
 
 pub returns-in_default : goal.returns-in_default
@@ -40,7 +40,9 @@ returns-in_default g c =
     record {
       logs = same_logs was s refl state refl c.requires.logs;
       told = subst (λ (k : Command). Tells (RunsCommand was (Some k) s c.in_ok-reply.reply) (g.S.Site.told c.args.site.now) (g.S.Site.told c.args.site.now)) (sym c.requires.command)
-          (tells_same (RunsCommand was (Some asked) s c.in_ok-reply.reply) (FitsSession was) (g.S.Site.told c.args.site.now) c.requires.fits (λ x f. runs_nothing was (Some asked) s c.in_ok-reply.reply x stepped state refl refl f));
+          (tells_same (RunsCommand was (Some asked) s c.in_ok-reply.reply) (FitsSession was) (g.S.Site.told c.args.site.now) c.requires.fits (λ x f. runs_nothing was (Some asked) s c.in_ok-reply.reply x
+          (put_meets_none was.home was.state c.args.name.now c.args.body.now x.now.disk
+          (λ q there more meets. c.in_default.not-Number (q.last + 1) (put_number was.state c.step.new.state c.args.name.now c.args.body.now q c.in_ok-reply.reply there more stepped))) stepped state refl refl f));
       drawn = drawn_none true _ _ _ _ (tells_none (g.S.Site.told c.args.site.now)) refl;
       spent = λ e. absurd (cc);
       home = refl;
