@@ -22,3 +22,5 @@ pub mod Going
 pub mod Quiets
 pub mod OwnWrites
 pub mod AppendSteps
+pub mod Returns
+pub mod Releases

@@ -5,5 +5,6 @@ pub mod Writing
 pub mod Spots
 pub mod Standing
 pub mod Steps
+pub mod Returning
 pub mod Appending
 pub mod Reads

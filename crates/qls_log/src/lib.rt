@@ -7,6 +7,7 @@
 mod fault;
 mod log;
 mod opening;
+mod release;
 mod spot;
 mod take;
 mod write;
