@@ -26,3 +26,5 @@ pub mod SoundRules
 pub mod Sound
 pub mod SoundDisk
 pub mod SoundRun
+pub mod Returns
+pub mod Releases

@@ -213,6 +213,16 @@ link_changes o m f g header e own is = record {
   own = λ used. absurd (no_both (is_in_use f.place) used e);
 }
 
+-- a file of the journal goes out of use, with all its bytes
+pub back_changes : (o : Opening) (m : Moment) (f g : FileState) → is_of o.kind o.name (headed (full_file f)) ≡ true → is_in_use g.place ≡ false → all_written g.pending g.stable ≡ all_written f.pending f.stable → ChangesOwn o m f g
+back_changes o m f g own out same = record {
+  before = λ kind name other used. of_one o kind name (headed (full_file f)) own other;
+  after = λ kind name other used. absurd (no_both (is_in_use g.place) used out);
+  next = next_empty o m (Some f) g out;
+  header = λ used. ap (take 4096) same;
+  own = λ used. own;
+}
+
 -- ---- a new file
 
 some_none : (f : FileState) → ◌≡◌ {A = Option FileState} None (Some f) → ⊥

@@ -241,7 +241,7 @@ told_syncs o ids (Err e) (Some x) (Some y) own t =
 seen_of : (id : ℕ) (d : Disk) (p : Option FileState) → file_of id d ≡ p → (f : FileState) → p ≡ Some f → bytes_at id d ≡ seen f
 seen_of id d p e f k = ap Rattle.qls_site.specs.Disk.seen_bytes (e ∙ k)
 
-own_one : (o : Opening) (h : HeadedFile) (d : Disk) (p : Option FileState) → file_of h.id d ≡ p → IsLinked h p → take 4096 (bytes_at h.id d) ≡ header_spelling h.header → IsOfOpening o h → IsTrue (is_legal_header h.header)
+pub own_one : (o : Opening) (h : HeadedFile) (d : Disk) (p : Option FileState) → file_of h.id d ≡ p → IsLinked h p → take 4096 (bytes_at h.id d) ≡ header_spelling h.header → IsOfOpening o h → IsTrue (is_legal_header h.header)
     → IsOwnFile o p
 own_one o h d None e l k is legal = absurd l
 own_one o h d (Some f) e l k is legal =

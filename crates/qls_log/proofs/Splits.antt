@@ -234,3 +234,66 @@ module _ (w : Headed → Headed) (ids : (f : Headed) → (w f).id ≡ f.id) (hea
     where
       files_same : files_on o e ≡ by_number (filter (is_of o.kind o.name) (map w (heads d)))
       files_same = ap (λ (fs : List Headed). by_number (filter (is_of o.kind o.name) fs)) h
+
+-- ---- the oldest file of the journal leaves it
+
+abbrev pub Above : ℕ → List Headed → Type 0
+Above n fs = AllByRecursion (λ f. n < f.header.number) fs
+
+number_first : (g : Headed) (fs : List Headed) → Above g.header.number fs → with_numbered g fs ≡ g ∷ fs
+number_first g [] h = refl
+number_first g (f ∷ fs) h = ap (λ b. cond b (g ∷ f ∷ fs) (f ∷ with_numbered g fs)) (before_that g f h.0)
+
+-- the least number comes to the front
+by_number-first : (g : Headed) (xs ys : List Headed) → Above g.header.number (xs ++ ys) → by_number (xs ++ g ∷ ys) ≡ g ∷ by_number (xs ++ ys)
+by_number-first g [] ys h = number_first g (by_number ys) (all_by_number (λ f. g.header.number < f.header.number) ys h)
+by_number-first g (x ∷ xs) ys h =
+    ap (with_numbered x) (by_number-first g xs ys h.1) ∙ ap (λ b. cond b (x ∷ g ∷ by_number (xs ++ ys)) (g ∷ with_numbered x (by_number (xs ++ ys)))) (behind_all x g h.0)
+
+filter_all : (P : Headed → Type 0) (t : Headed → Bool) (fs : List Headed) → AllByRecursion P fs → AllByRecursion P (filter t fs)
+filter_all P t [] h = tt
+filter_all P t (f ∷ fs) h = elim (t f) as (λ b. AllByRecursion P (cond b (f ∷ filter t fs) (filter t fs))) [ true ↦ (h.0, filter_all P t fs h.1) | false ↦ filter_all P t fs h.1 ]
+
+heads_all : (P : Headed → Type 0) (d : Disk) → AllByRecursion (λ f. P (headed (full_file f))) d → AllByRecursion P (heads d)
+heads_all P [] h = tt
+heads_all P (f ∷ d) h =
+    elim (is_in_use f.place) as (λ b. AllByRecursion P (map headed (cond b (full_file f ∷ in_use (full d)) (in_use (full d))))) [ true ↦ (h.0, heads_all P d h.1) | false ↦ heads_all P d h.1 ]
+
+mine_all : (P : Headed → Type 0) (kind : JournalKind) (name : List ℕ) (d : Disk) → AllByRecursion (λ f. P (headed (full_file f))) d → AllByRecursion P (mine kind name d)
+mine_all P kind name d h = filter_all P (is_of kind name) (heads d) (heads_all P d h)
+
+-- it is the one, or has a greater number
+abbrev pub IsOrAbove : ℕ → ℕ → Headed → Type 0
+IsOrAbove id n f = (f.id == id) ≡ false → n < f.header.number
+
+all_above : (id n : ℕ) (fs : List Headed) → AllByRecursion (λ f. (f.id == id) ≡ false) fs → AllByRecursion (IsOrAbove id n) fs → Above n fs
+all_above id n [] l h = tt
+all_above id n (f ∷ fs) l h = (h.0 l.0, all_above id n fs l.1 h.1)
+
+cut_all : (P : Headed → Type 0) (g : Headed) (xs ys : List Headed) → AllByRecursion P (xs ++ g ∷ ys) → AllByRecursion P xs × AllByRecursion P ys
+cut_all P g [] ys h = (tt, h.1)
+cut_all P g (x ∷ xs) ys h = let rest = cut_all P g xs ys h.1 in ((h.0, rest.0), rest.1)
+
+join_all : (P : Headed → Type 0) (xs ys : List Headed) → AllByRecursion P xs → AllByRecursion P ys → AllByRecursion P (xs ++ ys)
+join_all P [] ys a b = b
+join_all P (x ∷ xs) ys a b = (a.0, join_all P xs ys a.1 b)
+
+-- that file goes out of use, before all others of its journal
+pub files-unlinked : (o : Opening) (id : ℕ) (f : FileState) (c : FileState → FileState) (d : Disk) → Split id f d → is_in_use f.place ≡ true → is_in_use (c f).place ≡ false
+    → is_of o.kind o.name (headed (full_file f)) ≡ true → AllByRecursion (IsOrAbove id (headed (full_file f)).header.number) (files_on o d)
+    → files_on o d ≡ headed (full_file f) ∷ files_on o (change_file id c d)
+files-unlinked o id f c d s useful out own above =
+    let g : Headed = headed (full_file f) in
+    let test = is_of o.kind o.name in
+    let xs = mine o.kind o.name s.before in
+    let ys = mine o.kind o.name s.after in
+    let old : mine o.kind o.name d ≡ xs ++ g ∷ ys =
+    ap (λ e. mine o.kind o.name e) s.is ∙ ap (filter test) (heads-append s.before (f ∷ s.after) ∙ ap (λ (x : List Headed). heads s.before ++ x) (heads-in f s.after useful))
+    ∙ filter-append test (heads s.before) (g ∷ heads s.after) ∙ ap (λ b. xs ++ cond b (g ∷ ys) ys) own in
+    let new : mine o.kind o.name (change_file id c d) ≡ xs ++ ys =
+    ap (λ e. mine o.kind o.name e) (change_split id f c d s) ∙ ap (filter test) (heads-append s.before (c f ∷ s.after) ∙ ap (λ (x : List Headed). heads s.before ++ x) (heads-out (c f) s.after out))
+    ∙ filter-append test (heads s.before) (heads s.after) in
+    let all = cut_all (IsOrAbove id g.header.number) g xs ys (subst (AllByRecursion (IsOrAbove id g.header.number)) old (by_number-back (IsOrAbove id g.header.number) (mine o.kind o.name d) above)) in
+    let before : Above g.header.number xs = all_above id g.header.number xs (mine_all (λ h. (h.id == id) ≡ false) o.kind o.name s.before s.lacks_before) all.0 in
+    let after : Above g.header.number ys = all_above id g.header.number ys (mine_all (λ h. (h.id == id) ≡ false) o.kind o.name s.after s.lacks_after) all.1 in
+    ap by_number old ∙ by_number-first g xs ys (join_all (λ h. g.header.number < h.header.number) xs ys before after) ∙ ap (λ (x : List Headed). g ∷ by_number x) (sym new)

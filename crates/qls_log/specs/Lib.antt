@@ -5,6 +5,7 @@ pub mod Writing
 pub mod Spots
 pub mod Standing
 pub mod Steps
+pub mod Returning
 pub mod Appending
 pub mod Reads
 pub mod Soundness

@@ -8,6 +8,7 @@ mod fault;
 pub mod laws;
 mod log;
 mod opening;
+mod release;
 mod spot;
 mod take;
 mod write;

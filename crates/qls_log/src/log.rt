@@ -1,5 +1,5 @@
 // The log of one journal.
-ghost use Rattle.std.specs.Prelude.{◌≡◌, ◌⊎◌, ◌<◌, ◌^◌, [], ℕ, List, false, is_err, IfOk, IfSome, Err, length, map};
+ghost use Rattle.std.specs.Prelude.{◌≡◌, ◌⊎◌, ◌<◌, ◌^◌, [], ℕ, List, false, is_err, IfOk, IfSome, Err, length, map, drop};
 ghost use Rattle.qls_site.specs.Content.{Tells};
 ghost use Rattle.qls_site.specs.Disk.{IsQuiet};
 ghost use Rattle.qls_pool.specs.Pools.{PoolState, IsSpent};
@@ -12,6 +12,7 @@ ghost use Rattle.qls_log.specs.Logs.{IsLegalOpening, IsSound, capacity_in};
 ghost use Rattle.qls_log.specs.Faults.{LogCauses, SiteCauses, Counts};
 ghost use Rattle.qls_log.specs.Taking.{TakesFiles, DrawsEach, MeetsEnd};
 ghost use Rattle.qls_log.specs.Spots.{spot_of};
+ghost use Rattle.qls_log.specs.Returning.{GivesAll, released};
 ghost use Rattle.qls_log.specs.Steps.{IsLogStep, GoesBy, MeetsEndWith, is_exact};
 ghost use Rattle.qls_log.specs.Standing.{LogThere, StandsWith, IsUnmarkedBehind, files_on};
 ghost use Rattle.qls_meaning.specs.Reading.{Read};
@@ -21,6 +22,7 @@ ghost use Rattle.qls_log.specs.Appending.{IsNew, FollowRids, HasAppended, TakesA
 
 use crate::fault::LogError;
 use crate::opening::Opening;
+use crate::release::{count_released, give_back_each};
 use crate::spot::{Spot, spots};
 use crate::take::take_files;
 use crate::write::{files_from, used_behind, write_batch};
@@ -31,6 +33,7 @@ use qls_pool::{Linked, Pool};
 use qls_site::{Serials, Site};
 use std::alloc::Global;
 use std::marker::Model;
+use std::mem;
 
 /// A journal as a list of records. Each batch starts at a block's end, behind the one before.
 #[derive(Drop)]
@@ -220,6 +223,69 @@ impl Log {
         sync_parts(site, &self.unsynced)?;
         self.unsynced = Seq::new(*self.files.allocator());
         self.ended = false;
+        Ok(())
+    }
+
+    /// Gives the oldest files with a lesser number than this one back to their pool, oldest first, and never the newest:
+    /// one relocation each, and nothing is written. While a batch is pending none is given back.
+    ///
+    /// The log isn't ended. Where told, the site has the journal as the log's last call left it, and the pool is the
+    /// site's, with no file out. After an error the log is ended, and the files before the one whose relocation failed are
+    /// in their pool; Memory may come before the first.
+    pub fn release_before<S: Site>(
+        &mut self,
+        site: &mut S,
+        pool: &mut Pool,
+        number: u64,
+    ) -> Result<(), LogError>
+        requires unended { self.old.ended ≡ false }
+        requires there { IfSome (S.told site.old) (OnDisk (LogThere self.old)) }
+        requires pool { IfSome (S.told site.old) (OnDisk (IsPoolOf pool.old [])) }
+        ensures ended { self.new.ended ≡ is_err result }
+        ensures log { IfOk result (λ _. self.new ≡ record self.old { files = drop (length (released number self.old)) self.old.files }) }
+        ensures told { Tells (GivesAll (released number self.old) result) (S.told site.old) (S.told site.new) }
+        ensures there { IfOk result (λ _. IfSome (S.told site.new) (OnDisk (LogThere self.new))) }
+        ensures pool { IfOk result (λ _. IfSome (S.told site.new) (OnDisk (IsPoolOf pool.new []))) }
+        ensures others { IfOk result (λ _. Tells (LeavesOthers (released number self.old)) (S.told site.old) (S.told site.new)) }
+        ensures went { Tells (GoesBy (IsLogStep self.old.opening) result) (S.told site.old) (S.told site.new) }
+        ensures none { Tells TakesNone (S.told site.old) (S.told site.new) }
+        ensures cause { SiteCauses (S.faults site.old) (S.faults site.new) result }
+        ensures syncs { S.syncs site.new ≡ S.syncs site.old }
+        ensures reads { S.reads site.new ≡ S.reads site.old }
+    {
+        let count = count_released(&self.files, &self.unsynced, number);
+        if count == 0 {
+            return Ok(());
+        }
+        self.ended = true;
+        let kept = self.files.split_off(count)?;
+        let given = mem::replace(&mut self.files, kept);
+        give_back_each(site, pool, given)?;
+        self.ended = false;
+        Ok(())
+    }
+
+    /// Gives the log's only file back to its pool: one relocation, and nothing is written. The journal has no file then.
+    ///
+    /// The log isn't ended, and has one file. Where told, the site has the journal as the log's last call left it, and the
+    /// pool is the site's, with no file out. After Failed the file is in use or in its pool.
+    pub fn remove<S: Site>(self, site: &mut S, pool: &mut Pool) -> Result<(), LogError>
+        requires unended { self.ended ≡ false }
+        requires one { length self.files ≡ 1 }
+        requires there { IfSome (S.told site.old) (OnDisk (LogThere self)) }
+        requires pool { IfSome (S.told site.old) (OnDisk (IsPoolOf pool.old [])) }
+        ensures told { Tells (GivesAll self.files result) (S.told site.old) (S.told site.new) }
+        ensures gone { IfOk result (λ _. IfSome (S.told site.new) (OnDisk (λ d. files_on self.opening d ≡ []))) }
+        ensures pool { IfOk result (λ _. IfSome (S.told site.new) (OnDisk (IsWholePool pool.new))) }
+        ensures others { IfOk result (λ _. Tells (LeavesOthers self.files) (S.told site.old) (S.told site.new)) }
+        ensures went { Tells (GoesBy (IsLogStep self.opening) result) (S.told site.old) (S.told site.new) }
+        ensures none { Tells TakesNone (S.told site.old) (S.told site.new) }
+        ensures cause { SiteCauses (S.faults site.old) (S.faults site.new) result }
+        ensures syncs { S.syncs site.new ≡ S.syncs site.old }
+        ensures reads { S.reads site.new ≡ S.reads site.old }
+    {
+        let Log { files, .. } = self;
+        give_back_each(site, pool, files)?;
         Ok(())
     }
 

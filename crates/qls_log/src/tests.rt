@@ -27,6 +27,9 @@ use std::test::Fail;
 /// The pool of partition 1 whose files have 4 KiB of data.
 const HOME: PoolId = PoolId { part: 1, kib: 4 };
 
+/// The place of its empty files.
+const EMPTY: Place = Place::Empty { part: 1, kib: 4 };
+
 /// The pools of a site without files.
 fn open_pools<S: Site>(alloc: Global, site: &mut S) -> Result<Pool, Fail>
     requires fits { IfSome (S.told site.old) (OnDisk (λ d. d ≡ [])) }
@@ -89,6 +92,7 @@ fn make<S: Site, N: Serials>(
     ensures pool { IfOk result (λ _. IfSome (S.told site.new) (OnDisk (IsPoolOf pool.new []))) }
     ensures there { IfOk result (λ log. IfSome (S.told site.new) (OnDisk (LogThere log))) }
     ensures log { IfOk result (λ log. (log.ended ≡ false) × (log.unsynced ≡ [])) }
+    ensures one { IfOk result (λ log. length log.files ≡ 1) }
     ensures begins { IfOk result (λ log. Tells (BeginsReading log) (S.told site.old) (S.told site.new)) }
     ensures sound { IfOk result (λ log. Tells (BeginsUndamaged log) (S.told site.old) (S.told site.new)) }
 {
@@ -133,6 +137,11 @@ fn number_at(files: &Seq<ImageFile>, file: usize, at: usize) -> Option<u64> {
     let bytes = files.get(file)?.bytes.as_slice().get(at..)?;
     let (eight, _) = bytes.split_first_chunk::<8>()?;
     Some(u64::from_le_bytes(*eight))
+}
+
+/// The place of a file.
+fn place_of(files: &Seq<ImageFile>, file: usize) -> Option<Place> {
+    Some(files.get(file)?.place)
 }
 
 /// The magic and flags that stand at a place.
@@ -309,6 +318,58 @@ fn a_body_of_a_mebibyte_takes_257_files(rt: HostRuntime) -> Result<(), Fail> {
     for file in [1, 255, 256] {
         assert_eq!(rt; number_at(&files, file, 16), Some(1), "{file}");
     }
+    Ok(())
+}
+
+#[test]
+fn old_files_go_back(rt: HostRuntime) -> Result<(), Fail> {
+    let alloc = rt.alloc();
+    let mut site = MemSite::new(alloc);
+    let mut serials = MemSerials::counting(7);
+    let mut pool = open_pools(alloc, &mut site)?;
+    let mut log = make(alloc, &mut site, &mut pool, &mut serials)?;
+    put(alloc, &mut log, &mut site, &mut pool, &mut serials, 4032)?;
+    put(alloc, &mut log, &mut site, &mut pool, &mut serials, 4032)?;
+    put(alloc, &mut log, &mut site, &mut pool, &mut serials, 4032)?;
+    log.release_before(&mut site, &mut pool, 3)?;
+    let files = now(alloc, &site)?;
+    let places: [Option<Place>; 3] = [
+        place_of(&files, 0),
+        place_of(&files, 1),
+        place_of(&files, 2),
+    ];
+    assert_eq!(rt; places, [Some(EMPTY), Some(EMPTY), Some(Place::InUse)]);
+    let spot = put(alloc, &mut log, &mut site, &mut pool, &mut serials, 4032)?;
+    let fourth = Spot {
+        file: 4,
+        at: 4096,
+        end_file: 4,
+    };
+    assert_eq!(rt; spot, Some(fourth));
+    let files = now(alloc, &site)?;
+    assert_eq!(rt; files.len(), 3);
+    assert_eq!(rt; place_of(&files, 0), Some(Place::InUse));
+    assert_eq!(rt; number_at(&files, 0, 40), Some(4));
+    log.release_before(&mut site, &mut pool, 9)?;
+    assert_eq!(rt; log.newest(), 4);
+    let files = now(alloc, &site)?;
+    assert_eq!(rt; place_of(&files, 0), Some(Place::InUse));
+    assert_eq!(rt; place_of(&files, 2), Some(EMPTY));
+    Ok(())
+}
+
+#[test]
+fn a_removed_log_leaves_its_file(rt: HostRuntime) -> Result<(), Fail> {
+    let alloc = rt.alloc();
+    let mut site = MemSite::new(alloc);
+    let mut serials = MemSerials::counting(7);
+    let mut pool = open_pools(alloc, &mut site)?;
+    let log = make(alloc, &mut site, &mut pool, &mut serials)?;
+    log.remove(&mut site, &mut pool)?;
+    let files = now(alloc, &site)?;
+    assert_eq!(rt; files.len(), 1);
+    assert_eq!(rt; place_of(&files, 0), Some(EMPTY));
+    assert_eq!(rt; number_at(&files, 0, 8), Some(7));
     Ok(())
 }
 

@@ -69,6 +69,15 @@ none_change own c keeps stays m differ =
     same_place : (f : FileState) → (changed own c f).place ≡ f.place
     same_place f = elim (f.id == own) as (λ b. (cond b (c f) f).place ≡ f.place) [ true ↦ stays f | false ↦ refl ]
 
+-- a file that goes out of use
+pub none_back : (own : ℕ) (c : FileState → FileState) → KeepsId c → ((f : FileState) → is_in_use (c f).place ≡ false) → (m : Moment) → Differ (ids_of (full m.disk)) → NoneComes m (on_disk (change_file own c) m)
+none_back own c keeps out m differ =
+    all_map (λ f. file_of f.id m.disk ≡ Some f) (WasInUse m) (changed own c)
+    (λ f e used. ap (λ n. uses n m) (same_id own c keeps f) ∙ found_used m f e (was f used)) m.disk (all_found m.disk differ)
+  where
+    was : (f : FileState) → is_in_use (changed own c f).place ≡ true → is_in_use f.place ≡ true
+    was f = elim (f.id == own) as (λ b. is_in_use (cond b (c f) f).place ≡ true → is_in_use f.place ≡ true) [ true ↦ λ e. absurd (not_both (is_in_use (c f).place) e (out f)) | false ↦ λ e. e ]
+
 pub none_create : (n part kib : ℕ) (m : Moment) → Differ (ids_of (full m.disk)) → NoneComes m (on_disk (create_at n part kib) m)
 none_create n part kib m differ = all_with (WasInUse m) _ (λ used. absurd (cc)) m.disk (none_same m m differ refl)
 
