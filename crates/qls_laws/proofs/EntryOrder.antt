@@ -35,16 +35,16 @@ same_by false false x y e f = refl
 same_turned : (x y : List ℕ) → same x y ≡ same y x
 same_turned x y = same_by (same x y) (same y x) x y refl refl
 
-less_differs : (x y : List ℕ) → slice_cmp nat_cmp x y ≡ Less → same y x ≡ false
+pub less_differs : (x y : List ℕ) → slice_cmp nat_cmp x y ≡ Less → same y x ≡ false
 less_differs x y e = same_turned y x ∙ sym (is_eq-slice_cmp x y) ∙ ap is_eq e
 
 -- of two xids that differ, the one that isn't less is behind
-behind : (x y : List ℕ) (c : Ordering) → c ≡ slice_cmp nat_cmp x y → is_lt c ≡ false → same x y ≡ false → slice_cmp nat_cmp y x ≡ Less
+pub behind : (x y : List ℕ) (c : Ordering) → c ≡ slice_cmp nat_cmp x y → is_lt c ≡ false → same x y ≡ false → slice_cmp nat_cmp y x ≡ Less
 behind x y Less e l n = absurd (cc)
 behind x y Equal e l n = let t : same x y ≡ true = sym (is_eq-slice_cmp x y) ∙ ap is_eq (sym e) in absurd (cc)
 behind x y Greater e l n = nat_list_cmp_total.antisymm y x ∙ ap ordering_reverse (sym e)
 
-is_less : (c : Ordering) → is_lt c ≡ true → c ≡ Less
+pub is_less : (c : Ordering) → is_lt c ≡ true → c ≡ Less
 is_less Less h = refl
 is_less Equal h = absurd (cc)
 is_less Greater h = absurd (cc)

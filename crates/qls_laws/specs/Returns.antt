@@ -1,10 +1,13 @@
 -- The words of the laws on files that go back to their pool: a journal without its oldest file.
-use Rattle.std.specs.Prelude.{◌≡◌, ◌⊎◌, ℕ, ◌-◌, ◌<◌, ◌≤◌, Bool, not, [], length, drop, ◌==◌}
+use Rattle.std.specs.Prelude.{◌≡◌, ◌⊎◌, ℕ, ◌-◌, ◌<◌, ◌≤◌, Bool, true, not, List, [], ◌∷◌, ◌++◌, map, length, drop, ◌==◌}
 use Rattle.std.specs.List.{AllByRecursion}
-use Rattle.qls_meaning.specs.Journals.{Headed, Journal}
+use Rattle.qls_site.specs.declared.site.Place.{Place}
+use Rattle.qls_site.specs.declared.site.ImageFile.{ImageFile}
+use Rattle.qls_site.specs.Disk.{Image}
+use Rattle.qls_meaning.specs.Journals.{Headed, Journal, in_use, headed}
 use Rattle.qls_meaning.specs.Reading.{Read}
-use Rattle.qls_meaning.specs.Dead.{past_files}
-use Rattle.qls_laws.specs.Undamaged.{BreaksNoRule}
+use Rattle.qls_meaning.specs.Dead.{past_files, has_dead_oldest}
+use Rattle.qls_laws.specs.Undamaged.{FilesBreakNoRule, BreaksNoRule, journal_with, JournalsBreakNoRule}
 
 abbrev pub without_oldest : Journal → Journal
 without_oldest j = record j { files = drop 1 j.files }
@@ -25,3 +28,20 @@ pub record IsWholeRun (j : Journal) : Type 0 where
   pub places : AllByRecursion HasPlaces j.files
   pub rules : BreaksNoRule j
   pub past : past_files j ≡ []
+
+-- ---- a file of an image
+
+-- the image with a file at a place, between others
+abbrev pub with_between : Image → ImageFile → Place → Image → Image
+with_between before f place after = before ++ record f { place = place } ∷ after
+
+-- the file is the oldest of its journal among these, and dead; the journal is such a run
+pub record MayGo (i : Image) (f : Headed) : Type 0 where
+  pub rest : List Headed
+  pub oldest : (journal_with (map headed (in_use i)) f).files ≡ f ∷ rest
+  pub dead : has_dead_oldest (journal_with (map headed (in_use i)) f) ≡ true
+  pub run : IsWholeRun (journal_with (map headed (in_use i)) f)
+
+-- neither a file for itself nor the journal of a file in use breaks a rule
+abbrev pub KeepsAllRules : Image → Type 0
+KeepsAllRules i = FilesBreakNoRule i × JournalsBreakNoRule i

@@ -1,11 +1,15 @@
 // Laws of a journal without its oldest file.
-ghost use Rattle.std.specs.Prelude.{◌≡◌, ◌<◌, [], ◌∷◌, length, true, false};
+ghost use Rattle.std.specs.Prelude.{◌≡◌, ◌<◌, ℕ, [], ◌∷◌, length, true, false};
 ghost use Rattle.std.specs.List.{filter};
-ghost use Rattle.qls_meaning.specs.Journals.{Journal, is_queue};
+ghost use Rattle.qls_site.specs.declared.site.Place.TheVariants.{InUse, Empty};
+ghost use Rattle.qls_site.specs.declared.site.ImageFile.{ImageFile};
+ghost use Rattle.qls_site.specs.Disk.{Image};
+ghost use Rattle.qls_meaning.specs.Journals.{Journal, headed, is_queue};
 ghost use Rattle.qls_meaning.specs.Reading.{journal_reading};
 ghost use Rattle.qls_meaning.specs.Dead.{oldest_number, has_dead_oldest};
-ghost use Rattle.qls_meaning.specs.Meaning.{queue_of, entries_of};
-ghost use Rattle.qls_laws.specs.Returns.{IsWholeRun, without_oldest, starts_elsewhere};
+ghost use Rattle.qls_meaning.specs.Damage.{is_pool};
+ghost use Rattle.qls_meaning.specs.Meaning.{queue_of, entries_of, meaning};
+ghost use Rattle.qls_laws.specs.Returns.{IsWholeRun, without_oldest, starts_elsewhere, with_between, MayGo, KeepsAllRules};
 
 /// Where a journal of one epoch breaks no rule and none of its files lies past its reading, the same holds without its oldest
 /// file, and what is read then are the records that start in the files that are left, at the places where they lay.
@@ -21,4 +25,12 @@ pub fn dead_file_says_nothing()
     ensures queue { (j : Journal) → IsWholeRun j → has_dead_oldest j ≡ true → is_queue j.kind ≡ true → queue_of (without_oldest j) ≡ queue_of j }
     ensures list { (j : Journal) → IsWholeRun j → has_dead_oldest j ≡ true → is_queue j.kind ≡ false
         → entries_of (without_oldest j ∷ []) ≡ entries_of (j ∷ []) }
+{}
+
+/// An image that breaks no rule breaks none and means the same once such a file went back to a pool of its size.
+pub fn image_without_a_dead_file()
+    ensures back { (before after : Image) (f : ImageFile) (part kib : ℕ) → KeepsAllRules (with_between before f InUse after)
+        → MayGo (with_between before f InUse after) (headed f) → is_pool (length f.bytes) (Empty part kib) ≡ true
+        → KeepsAllRules (with_between before f (Empty part kib) after)
+        × (meaning (with_between before f (Empty part kib) after) ≡ meaning (with_between before f InUse after)) }
 {}

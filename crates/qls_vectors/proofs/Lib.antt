@@ -7,3 +7,4 @@ mod Moments
 mod Returns
 mod Changed
 mod OrderlyRun
+mod WholeRuns
