@@ -1,5 +1,6 @@
 pub mod Xids
 pub mod Writes
+pub mod Quiet
 pub mod Replays
 pub mod Says
 pub mod Applied

@@ -1,10 +1,11 @@
 // A queue held live.
 ghost use Rattle.std.specs.Prelude.{◌≡◌, ◌⊎◌, ℕ, ◌<◌, ◌≤◌, ◌+◌, ◌-◌, ◌^◌, List, [], ◌∷◌, Option, Some, None, Ok, Err, IfOk, IfErr, IfSome, IsTrue, length, slice_get, option_map, false, true};
 ghost use Rattle.qls_site.specs.Content.{Tells};
+ghost use Rattle.qls_site.specs.Disk.{IsQuiet};
 ghost use Rattle.qls_record.specs.Record.{rid_given};
 ghost use Rattle.qls_record.specs.Head.{is_legal_head, record_with};
 ghost use Rattle.qls_pool.specs.Pools.{IsSpent};
-ghost use Rattle.qls_pool.specs.Files.{IsPoolOf, IsWholePool, OnDisk};
+ghost use Rattle.qls_pool.specs.Files.{IsPoolOf, IsWholePool, OnDisk, Carries};
 ghost use Rattle.qls_pool.specs.Discipline.{Orderly};
 ghost use Rattle.qls_meaning.specs.Replay.{after_record};
 ghost use Rattle.std.specs.List.{AllByRecursion};
@@ -20,7 +21,7 @@ ghost use Rattle.qls_log.specs.Logs.{IsLegalOpening, capacity_in};
 ghost use Rattle.qls_log.specs.Faults.{Counts};
 ghost use Rattle.qls_log.specs.Taking.{TakesFiles, DrawsEach, MeetsEnd};
 ghost use Rattle.qls_log.specs.Standing.{files_on};
-ghost use Rattle.qls_log.specs.Appending.{IsNew, LeavesOthers};
+ghost use Rattle.qls_log.specs.Appending.{IsNew, LeavesOthers, ReadsInImages};
 ghost use Rattle.qls_queue.specs.Live.{IsSound, QueueThere, BeginsQueue, QueueReadsOn};
 ghost use Rattle.qls_queue.specs.Faults.{is_end, is_fault, QueueCauses};
 ghost use Rattle.qls_queue.specs.Writing.{HasWritten, syncs_of};
@@ -95,6 +96,7 @@ impl LiveQueue {
         ensures pool { IfOk result (λ _. IfSome (S.told site.new) (OnDisk (IsWholePool pool.new))) }
         ensures reading { IfOk result (λ q. Tells (BeginsQueue q) (S.told site.old) (S.told site.new)) }
         ensures others { IfOk result (λ q. Tells (LeavesOthers q.log.files) (S.told site.old) (S.told site.new)) }
+        ensures quiet { IfOk result (λ _. Carries IsQuiet IsQuiet (S.told site.old) (S.told site.new)) }
         ensures refusals { IfErr result (λ e. is_fault e ≡ true) }
         ensures spent { result ≡ Err QueueError.Spent → IsSpent home pool.new }
         ensures at_end { IsSpent home pool.old → (result ≡ Err QueueError.Spent) ⊎ (result ≡ Err QueueError.Memory) }
@@ -138,6 +140,8 @@ impl LiveQueue {
         ensures pool { self.new.ended ≡ false → IfSome (S.told site.new) (OnDisk (IsPoolOf pool.new [])) }
         ensures reading { IfOk result (λ _. Tells (QueueReadsOn self.old self.new) (S.told site.old) (S.told site.new)) }
         ensures others { IfOk result (λ _. Tells (LeavesOthers self.new.log.files) (S.told site.old) (S.told site.new)) }
+        ensures quiet { IfOk result (λ _. Carries IsQuiet IsQuiet (S.told site.old) (S.told site.new)) }
+        ensures images { IfOk result (λ _. Carries IsQuiet (ReadsInImages self.new.log) (S.told site.old) (S.told site.new)) }
         ensures spent { result ≡ Err QueueError.Spent → MeetsEnd self.old.log.opening self.old.log.newest (length (plan_of (record_with head xid body ∷ []) self.old.log.used (capacity_in self.old.log.opening) self.old.log.rid).fresh) pool.new }
         ensures at_end { 0 < length (plan_of (record_with head xid body ∷ []) self.old.log.used (capacity_in self.old.log.opening) self.old.log.rid).fresh → MeetsEnd self.old.log.opening self.old.log.newest 1 pool.old → (result ≡ Err QueueError.Spent) ⊎ (result ≡ Err QueueError.Memory) }
         ensures cause { QueueCauses (S.faults site.old) (S.faults site.new) (N.faults serials.old) (N.faults serials.new) result }
@@ -184,6 +188,8 @@ impl LiveQueue {
         ensures refused { result ≡ Err QueueError.Numbers → self.new ≡ self.old }
         ensures no_call { result ≡ Err QueueError.Numbers → (site.new ≡ site.old) × (pool.new ≡ pool.old) × (serials.new ≡ serials.old) }
         ensures no_other { (result ≡ Err QueueError.Unknown → ⊥) × (result ≡ Err QueueError.Locked → ⊥) }
+        ensures quiet { IfOk result (λ _. Carries IsQuiet IsQuiet (S.told site.old) (S.told site.new)) }
+        ensures images { IfOk result (λ _. Carries IsQuiet (ReadsInImages self.new.log) (S.told site.old) (S.told site.new)) }
         ensures spent { result ≡ Err QueueError.Spent → MeetsEnd self.old.log.opening self.old.log.newest (length (plan_of (enqueue_of (self.old.queue.last + 1) body xid ∷ []) self.old.log.used (capacity_in self.old.log.opening) self.old.log.rid).fresh) pool.new }
         ensures at_end { self.old.queue.last < 2 ^ 62 - 1 → 0 < length (plan_of (enqueue_of (self.old.queue.last + 1) body xid ∷ []) self.old.log.used (capacity_in self.old.log.opening) self.old.log.rid).fresh → MeetsEnd self.old.log.opening self.old.log.newest 1 pool.old → (result ≡ Err QueueError.Spent) ⊎ (result ≡ Err QueueError.Memory) }
         ensures cause { QueueCauses (S.faults site.old) (S.faults site.new) (N.faults serials.old) (N.faults serials.new) result }
@@ -230,6 +236,8 @@ impl LiveQueue {
         ensures only { IfErr result (λ e. is_fault e ≡ false → take_answer (message_at self.old.queue.messages number) ≡ Err e) }
         ensures refused { IfErr result (λ e. is_fault e ≡ false → self.new ≡ self.old) }
         ensures no_call { IfErr result (λ e. is_fault e ≡ false → (site.new ≡ site.old) × (pool.new ≡ pool.old) × (serials.new ≡ serials.old)) }
+        ensures quiet { IfOk result (λ _. Carries IsQuiet IsQuiet (S.told site.old) (S.told site.new)) }
+        ensures images { IfOk result (λ _. Carries IsQuiet (ReadsInImages self.new.log) (S.told site.old) (S.told site.new)) }
         ensures spent { result ≡ Err QueueError.Spent → MeetsEnd self.old.log.opening self.old.log.newest (length (plan_of (dequeue_of self.old.queue.last number xid ∷ []) self.old.log.used (capacity_in self.old.log.opening) self.old.log.rid).fresh) pool.new }
         ensures at_end { take_answer (message_at self.old.queue.messages number) ≡ Ok tt → 0 < length (plan_of (dequeue_of self.old.queue.last number xid ∷ []) self.old.log.used (capacity_in self.old.log.opening) self.old.log.rid).fresh → MeetsEnd self.old.log.opening self.old.log.newest 1 pool.old → (result ≡ Err QueueError.Spent) ⊎ (result ≡ Err QueueError.Memory) }
         ensures cause { QueueCauses (S.faults site.old) (S.faults site.new) (N.faults serials.old) (N.faults serials.new) result }
@@ -271,6 +279,8 @@ impl LiveQueue {
         ensures pool { self.new.ended ≡ false → IfSome (S.told site.new) (OnDisk (IsPoolOf pool.new [])) }
         ensures reading { IfOk result (λ _. Tells (QueueReadsOn self.old self.new) (S.told site.old) (S.told site.new)) }
         ensures others { IfOk result (λ _. Tells (LeavesOthers self.new.log.files) (S.told site.old) (S.told site.new)) }
+        ensures quiet { IfOk result (λ _. Carries IsQuiet IsQuiet (S.told site.old) (S.told site.new)) }
+        ensures images { IfOk result (λ _. Carries IsQuiet (ReadsInImages self.new.log) (S.told site.old) (S.told site.new)) }
         ensures spent { result ≡ Err QueueError.Spent → MeetsEnd self.old.log.opening self.old.log.newest (length (plan_of (end_records self.old.queue.last ends.now) self.old.log.used (capacity_in self.old.log.opening) self.old.log.rid).fresh) pool.new }
         ensures at_end { 0 < length (plan_of (end_records self.old.queue.last ends.now) self.old.log.used (capacity_in self.old.log.opening) self.old.log.rid).fresh → MeetsEnd self.old.log.opening self.old.log.newest 1 pool.old → (result ≡ Err QueueError.Spent) ⊎ (result ≡ Err QueueError.Memory) }
         ensures cause { QueueCauses (S.faults site.old) (S.faults site.new) (N.faults serials.old) (N.faults serials.new) result }

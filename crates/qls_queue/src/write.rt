@@ -1,9 +1,10 @@
 // What a queue writes: one batch a call, appended and flushed.
 ghost use Rattle.std.specs.Prelude.{◌≡◌, ◌⊎◌, ◌<◌, ◌^◌, [], ◌∷◌, false, is_err, IfOk, IfSome, IsTrue, Err, length, map};
 ghost use Rattle.qls_site.specs.Content.{Tells};
+ghost use Rattle.qls_site.specs.Disk.{IsQuiet};
 ghost use Rattle.qls_record.specs.Record.{rid_given};
 ghost use Rattle.qls_record.specs.Head.{is_legal_head, record_with};
-ghost use Rattle.qls_pool.specs.Files.{IsPoolOf, OnDisk};
+ghost use Rattle.qls_pool.specs.Files.{IsPoolOf, OnDisk, Carries};
 ghost use Rattle.qls_meaning.specs.Reading.{read_of};
 ghost use Rattle.qls_blocks.specs.Batching.{laid_from};
 ghost use Rattle.qls_blocks.specs.Plans.{plan_of};
@@ -12,7 +13,7 @@ ghost use Rattle.qls_log.specs.Faults.{LogCauses, Counts};
 ghost use Rattle.qls_log.specs.Taking.{MeetsEnd};
 ghost use Rattle.qls_log.specs.Spots.{spot_of};
 ghost use Rattle.qls_log.specs.Standing.{LogThere};
-ghost use Rattle.qls_log.specs.Appending.{FollowRids, LeavesOthers};
+ghost use Rattle.qls_log.specs.Appending.{FollowRids, LeavesOthers, ReadsInImages};
 ghost use Rattle.qls_log.specs.Reads.{ReadsOn};
 ghost use Rattle.qls_queue.specs.Writing.{HasWritten, syncs_of};
 ghost use Rattle.qls_queue.specs.Records.{read_at};
@@ -47,6 +48,8 @@ pub(crate) fn write_batch<S: Site, N: Serials>(
     ensures pool { IfOk result (λ _. IfSome (S.told site.new) (OnDisk (IsPoolOf pool.new []))) }
     ensures reading { IfOk result (λ _. Tells (ReadsOn batch.now log.old log.new) (S.told site.old) (S.told site.new)) }
     ensures others { IfOk result (λ _. Tells (LeavesOthers log.new.files) (S.told site.old) (S.told site.new)) }
+    ensures quiet { IfOk result (λ _. Carries IsQuiet IsQuiet (S.told site.old) (S.told site.new)) }
+    ensures images { IfOk result (λ _. Carries IsQuiet (ReadsInImages log.new) (S.told site.old) (S.told site.new)) }
     ensures spent { result ≡ Err LogError.Spent → MeetsEnd log.old.opening log.old.newest (length (plan_of batch.now log.old.used (capacity_in log.old.opening) log.old.rid).fresh) pool.new }
     ensures at_end { 0 < length (plan_of batch.now log.old.used (capacity_in log.old.opening) log.old.rid).fresh → MeetsEnd log.old.opening log.old.newest 1 pool.old → (result ≡ Err LogError.Spent) ⊎ (result ≡ Err LogError.Memory) }
     ensures cause { LogCauses (S.faults site.old) (S.faults site.new) (N.faults serials.old) (N.faults serials.new) result }
@@ -100,6 +103,8 @@ pub(crate) fn write_one<S: Site, N: Serials>(
     ensures pool { IfOk result (λ _. IfSome (S.told site.new) (OnDisk (IsPoolOf pool.new []))) }
     ensures reading { IfOk result (λ _. Tells (ReadsOn (record_with head xid body ∷ []) log.old log.new) (S.told site.old) (S.told site.new)) }
     ensures others { IfOk result (λ _. Tells (LeavesOthers log.new.files) (S.told site.old) (S.told site.new)) }
+    ensures quiet { IfOk result (λ _. Carries IsQuiet IsQuiet (S.told site.old) (S.told site.new)) }
+    ensures images { IfOk result (λ _. Carries IsQuiet (ReadsInImages log.new) (S.told site.old) (S.told site.new)) }
     ensures spent { result ≡ Err LogError.Spent → MeetsEnd log.old.opening log.old.newest (length (plan_of (record_with head xid body ∷ []) log.old.used (capacity_in log.old.opening) log.old.rid).fresh) pool.new }
     ensures at_end { 0 < length (plan_of (record_with head xid body ∷ []) log.old.used (capacity_in log.old.opening) log.old.rid).fresh → MeetsEnd log.old.opening log.old.newest 1 pool.old → (result ≡ Err LogError.Spent) ⊎ (result ≡ Err LogError.Memory) }
     ensures cause { LogCauses (S.faults site.old) (S.faults site.new) (N.faults serials.old) (N.faults serials.new) result }

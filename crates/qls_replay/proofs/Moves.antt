@@ -1,5 +1,5 @@
 -- Which transactions the held records show as pending.
-use Rattle.std.proofs.Common.{◌≡◌, ℕ, Bool, true, false, ◌||◌, cond, List, [], ◌∷◌, Option, Some, None, refl, ap, sym, ◌∙◌, arith}
+use Rattle.std.proofs.Common.{◌≡◌, ℕ, Bool, true, false, ◌||◌, cond, List, [], ◌∷◌, Some, None, refl, ap, sym, ◌∙◌, arith}
 use Rattle.std.specs.List.{list_any, cons_option}
 use Rattle.qls_model.specs.Bytes.{same}
 use Rattle.qls_model.specs.declared.machine.Status.{Status}
@@ -8,7 +8,7 @@ use Rattle.qls_enqmap.specs.declared.Held.{Held}
 use Rattle.qls_txnmap.specs.declared.Op.{Op}
 use Rattle.qls_txnmap.specs.declared.Op.TheVariants.{Put, Take}
 use Rattle.qls_txnmap.specs.Pending.{Table, ops_of, is_any, is_pending}
-use Rattle.qls_replay.specs.Ops.{op_by_status, op_by, ops_in, same_op, has_op, is_moved, moves_by, Agrees}
+use Rattle.qls_replay.specs.Ops.{op_by_status, ops_in, same_op, has_op, is_moved, moves_by, Agrees}
 
 own_op : (op : Op) → same_op op op ≡ true
 own_op (Put n) = grind arith

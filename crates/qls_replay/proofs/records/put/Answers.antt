@@ -1,4 +1,4 @@
-use Rattle.std.proofs.Common.{◌==◌, ◌++◌, ◌∷◌, [], length, sym, ap, subst, refl, ◌∙◌}
+use Rattle.std.proofs.Common.{◌==◌, length, sym, ap, subst, refl, ◌∙◌}
 use Rattle.qls_model.specs.Messages.{status_of}
 use Rattle.qls_enqmap.specs.Records.{without}
 use Rattle.qls_replay.specs.Held.{IsSound}

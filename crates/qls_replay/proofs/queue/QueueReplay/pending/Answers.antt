@@ -1,4 +1,4 @@
-use Rattle.std.proofs.Common.{◌≡◌, ℕ, List, Result, Ok, Err, IfOk, ap, subst, ◌∙◌}
+use Rattle.std.proofs.Common.{◌≡◌, ℕ, List, Result, Ok, Err, IfOk, subst, ◌∙◌}
 use Rattle.std.specs.List.{list_any}
 use Rattle.qls_model.specs.Bytes.{is_listed}
 use Rattle.qls_enqmap.specs.declared.Held.{Held}
