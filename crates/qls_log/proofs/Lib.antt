@@ -20,3 +20,4 @@ pub mod SoundRules
 pub mod Sound
 pub mod SoundDisk
 pub mod SoundRun
+pub mod SoundLess
