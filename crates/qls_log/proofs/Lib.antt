@@ -28,3 +28,4 @@ pub mod SoundDisk
 pub mod SoundRun
 pub mod Returns
 pub mod Releases
+pub mod SoundLess

@@ -1,5 +1,5 @@
 -- A log's journal breaks no damage rule, from its first call on, and a disk of such journals has no damage.
-use Rattle.std.specs.Prelude.{◌≡◌, true, List, length, Ok}
+use Rattle.std.specs.Prelude.{◌≡◌, true, List, length, Ok, drop}
 use Rattle.std.specs.List.{AllByRecursion}
 use Rattle.qls_site.specs.declared.site.ImageFile.{ImageFile}
 use Rattle.qls_site.specs.Disk.{Disk, full}
@@ -46,3 +46,13 @@ pub record AllBelongToLogs (d : Disk) : Type 0 where
   pub ids : AllByRecursion (λ f. is_counter f.id ≡ true) (full d)
   pub pools : AllByRecursion (λ f. is_pool (length f.bytes) f.place ≡ true) (empties (full d))
   pub files : AllByRecursion (BelongsToLog d) (in_use (full d))
+
+-- ---- without the oldest file
+
+abbrev pub log_without_oldest : LogState → LogState
+log_without_oldest l = record l { files = drop 1 l.files }
+
+-- on a disk where the journal is without its oldest file, the log without it breaks no rule and these records are read
+pub record IsKeptWithout (l : LogState) (reads : List Read) (d : Disk) : Type 0 where
+  pub undamaged : IsUndamaged (log_without_oldest l) d
+  pub read : IsRead (log_without_oldest l) reads d

@@ -1,12 +1,14 @@
 -- Journals of which the oldest file may go: they meet what the laws on returns ask, and what these give is what is computed.
-use Rattle.std.proofs.Common.{◌≡◌, inr, ℕ, false, [], ◌∷◌, length, refl, arith}
+use Rattle.std.proofs.Common.{◌≡◌, inr, ℕ, true, false, [], ◌∷◌, length, refl, arith, ◌++◌, map, replicate, Ok}
 use Rattle.qls_shape.specs.declared.Version.TheVariants.{Two}
-use Rattle.qls_record.specs.declared.Kind.TheVariants.{Enqueue, Dequeue, Commit}
+use Rattle.qls_record.specs.declared.Kind.TheVariants.{Enqueue, Dequeue, Commit, Filler}
 use Rattle.qls_record.specs.Record.{Record}
 use Rattle.qls_record.specs.Spelling.{spelling}
 use Rattle.qls_filehdr.specs.declared.JournalKind.{JournalKind}
 use Rattle.qls_filehdr.specs.declared.JournalKind.TheVariants.{Queue, List as Listed}
 use Rattle.qls_meaning.specs.Journals.{Headed, Journal}
+use Rattle.qls_meaning.specs.Damage.{chain_claims, reading_claims}
+use Rattle.qls_meaning.specs.Dead.{has_dead_oldest, past_files}
 use Rattle.qls_meaning.specs.Meaning.{queue_of, entries_of}
 use Rattle.qls_laws.specs.Returns.{HasPlaces, IsWholeRun, without_oldest}
 use Rattle.qls_laws.proofs.DeadQueue.{dead_queue}
@@ -18,6 +20,9 @@ put = record { kind = Enqueue; flagged = false; rid = 1; target = 0; xid = []; p
 
 abbrev take_of_it : Record
 take_of_it = record { kind = Dequeue; flagged = false; rid = 1; target = 1; xid = []; props = []; body = [] }
+
+abbrev filler : Record
+filler = record { kind = Filler; flagged = false; rid = 0; target = 0; xid = []; props = []; body = [] }
 
 abbrev prepare : Record
 prepare = record put { xid = 1 ∷ [] }
@@ -80,3 +85,29 @@ ended_says_nothing = dead_list ended ended_is_whole refl refl
 
 ended_computed : entries_of (without_oldest ended ∷ []) ≡ []
 ended_computed = refl
+
+-- ---- a file past the reading
+
+-- The reading ends in the first file, though a record stands in the second: what a torn batch may leave. The oldest file is dead here too
+-- and no rule fails, but without it that record would be read. So the laws ask that no file lies past the reading
+abbrev torn : Journal
+torn = record {
+  kind = Queue;
+  name = [];
+  files = record (holding Queue 1 7 0 filler) { area = spelling Two 7 filler ++ replicate 128 0 } ∷ holding Queue 2 8 0 put ∷ [];
+}
+
+torn_breaks_no_rule : (chain_claims torn.files ≡ Ok tt) × (reading_claims torn ≡ Ok tt)
+torn_breaks_no_rule = (refl, refl)
+
+torn_has_a_dead_file : has_dead_oldest torn ≡ true
+torn_has_a_dead_file = refl
+
+torn_has_one_past : map (λ f. f.header.number) (past_files torn) ≡ 2 ∷ []
+torn_has_one_past = refl
+
+torn_means : (queue_of torn).messages ≡ []
+torn_means = refl
+
+torn_without_means : map (λ m. m.number) (queue_of (without_oldest torn)).messages ≡ 1 ∷ []
+torn_without_means = refl
