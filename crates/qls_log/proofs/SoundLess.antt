@@ -1,6 +1,6 @@
 -- A log whose journal is without its oldest file.
 use Rattle.std.proofs.Common.{◌≡◌, ℕ, ◌+◌, ◌-◌, ◌*◌, ◌<◌, true, cond, List, [], ◌∷◌, length, drop, IsTrue, refl, sym, ap, ap₂, ◌∙◌, subst, arith}
-use Rattle.std.specs.List.{filter}
+use Rattle.std.specs.List.{filter, AllByRecursion}
 use Rattle.qls_record.specs.Record.{is_enqueue}
 use Rattle.qls_site.specs.Disk.{Disk}
 use Rattle.qls_filehdr.specs.declared.JournalKind.{JournalKind}
@@ -13,8 +13,8 @@ use Rattle.qls_laws.specs.Returns.{IsWholeRun, starts_elsewhere}
 use Rattle.qls_laws.proofs.Leftover.{all_moved, ends_left}
 use Rattle.qls_laws.proofs.Returned.{parted, next_rid_is, whole_without, reading_without}
 use Rattle.qls_laws.proofs.DeadQueue.{run}
-use Rattle.qls_pool.specs.Files.{HeadedFile}
-use Rattle.qls_log.specs.Logs.{LogState, IsSound, IsOfOpening, NumberedFrom, capacity_in}
+use Rattle.qls_pool.specs.Files.{HeadedFile, is_among}
+use Rattle.qls_log.specs.Logs.{LogState, IsSound, IsOfOpening, NumberedFrom, capacity_in, ids}
 use Rattle.qls_log.specs.Standing.{files_on, end_of, AreThoseFiles, LogThere, LastIsUnmarked}
 use Rattle.qls_log.specs.Reads.{IsRead}
 use Rattle.qls_log.specs.Soundness.{IsUndamaged, log_without_oldest, IsKeptWithout}
@@ -35,8 +35,8 @@ length_less : (hs : List HeadedFile) → 0 < length hs → length (drop 1 hs) + 
 length_less [] some = absurd (omega (arith, some))
 length_less (h ∷ hs) some = omega arith
 
-sound_less : (l : LogState) → 1 < length l.files → IsSound l → IsSound (log_without_oldest l)
-sound_less l more s =
+sound_less : (l : LogState) → 1 < length l.files → l.unsynced ≡ [] → IsSound l → IsSound (log_without_oldest l)
+sound_less l more synced s =
     let size : length (drop 1 l.files) + 1 ≡ length l.files = length_less l.files (omega (arith, more)) in
     record {
       opening = s.opening;
@@ -48,6 +48,7 @@ sound_less l more s =
       newest = s.newest;
       used = s.used;
       rid = s.rid;
+      unsynced = subst (AllByRecursion (λ id. is_among id (ids (drop 1 l.files)) ≡ true)) (sym synced) tt;
     }
 
 -- the files of the journal, from the first two on
@@ -97,11 +98,11 @@ module _ (l : LogState) (more : 1 < length l.files) (reads : List Read) (f g : H
     };
   }
 
-pub log_less : (l : LogState) (d e : Disk) (reads : List Read) → 1 < length l.files → IsSound l → LogThere l d → IsUndamaged l d → IsRead l reads d → files_on l.opening e ≡ drop 1 (files_on l.opening d)
+pub log_less : (l : LogState) (d e : Disk) (reads : List Read) → 1 < length l.files → l.unsynced ≡ [] → IsSound l → LogThere l d → IsUndamaged l d → IsRead l reads d → files_on l.opening e ≡ drop 1 (files_on l.opening d)
     → IsSound (log_without_oldest l) × IsKeptWithout l (filter (starts_elsewhere (oldest_number (files_on l.opening d))) reads) e
-log_less l d e reads more sound there u r is =
+log_less l d e reads more synced sound there u r is =
     let count : length (files_on l.opening d) ≡ length l.files = those_count (capacity_in l.opening) l.files (files_on l.opening d) there.there.files in (
-      sound_less l more sound,
+      sound_less l more synced sound,
       by (files_on l.opening d) (omega (arith, count, more)) there.there.files (log_is_whole l d reads sound there u r) u.rid r.reading r.ends r.behind is,
     )
   where

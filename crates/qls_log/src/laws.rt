@@ -1,5 +1,5 @@
 // Laws over logs. Each is the contract of a function that does nothing: calling it hands the law to the caller.
-ghost use Rattle.std.specs.Prelude.{◌≡◌, ◌<◌, List, length, drop, Ok};
+ghost use Rattle.std.specs.Prelude.{◌≡◌, ◌<◌, List, [], length, drop, Ok};
 ghost use Rattle.std.specs.List.{filter};
 ghost use Rattle.qls_site.specs.Disk.{Disk, full};
 ghost use Rattle.qls_meaning.specs.Journals.{journals_of};
@@ -25,10 +25,10 @@ pub fn undamaged_log_is_a_whole_run()
         → IsWholeRun (journal_on d l.opening.kind l.opening.name) }
 {}
 
-/// Where the oldest file of such a log went and the others stayed, the log without it breaks no rule, and what is read of it are
-/// the records that start in the other files.
+/// Where the oldest file of such a log with nothing pending went and the others stayed, the log without it breaks no rule, and
+/// what is read of it are the records that start in the other files.
 pub fn oldest_file_of_a_log_may_go()
-    ensures log { (l : LogState) (d e : Disk) (reads : List Read) → 1 < length l.files → IsSound l → LogThere l d → IsUndamaged l d → IsRead l reads d
+    ensures log { (l : LogState) (d e : Disk) (reads : List Read) → 1 < length l.files → l.unsynced ≡ [] → IsSound l → LogThere l d → IsUndamaged l d → IsRead l reads d
         → files_on l.opening e ≡ drop 1 (files_on l.opening d)
         → IsSound (log_without_oldest l) × IsKeptWithout l (filter (starts_elsewhere (oldest_number (files_on l.opening d))) reads) e }
 {}
