@@ -42,11 +42,11 @@ fn magic_at(files: &Seq<ImageFile>, file: usize, at: usize) -> Option<u64> {
 fn check_header(
     rt: &impl Abort,
     files: &Seq<ImageFile>,
-    file: usize,
+    file: u16,
     first: u64,
     rid: u64,
 ) -> Result<(), Fail> {
-    let there = files.get(file).ok_or("no such file")?;
+    let there = files.get(file as usize).ok_or("no such file")?;
     assert_eq!(rt; (there.id, there.place), (file as u64 + 1, Place::InUse));
     assert_eq!(rt; there.bytes.as_slice().len(), 8_192);
     for (at, wanted) in [
@@ -57,7 +57,7 @@ fn check_header(
         (48, 1),
     ] {
         assert_eq!(rt;
-            number_at(files, file, at),
+            number_at(files, file as usize, at),
             Some(wanted),
             "file {file} at {at}"
         );
@@ -71,26 +71,19 @@ const ENQUEUE: u64 = 0x6553_4c51;
 const FILLER: u64 = 0x7853_4c51;
 
 // A record of this kind stands there, with the serial of the file where it starts and this rid.
-fn check_record(
-    rt: &impl Abort,
-    files: &Seq<ImageFile>,
-    file: usize,
-    at: usize,
-    magic: u64,
-    rid: u64,
-) {
+fn check_record(rt: &impl Abort, files: &Seq<ImageFile>, file: u16, at: u16, magic: u64, rid: u64) {
     assert_eq!(rt;
-        magic_at(files, file, at),
+        magic_at(files, file as usize, at as usize),
         Some(magic),
         "file {file} at {at}"
     );
     assert_eq!(rt;
-        number_at(files, file, at + 8),
+        number_at(files, file as usize, at as usize + 8),
         Some(file as u64 + 7),
         "file {file} at {at}"
     );
     assert_eq!(rt;
-        number_at(files, file, at + 16),
+        number_at(files, file as usize, at as usize + 16),
         Some(rid),
         "file {file} at {at}"
     );
