@@ -166,60 +166,60 @@ puts() {
 
 scenario='a put of an empty body'
 puts 0 >puts.txt
-run small/empty run 1 4 <puts.txt
+run grown/empty run 1 4 <puts.txt
 is status "$status" 0
 is replies "$out" $'ok\nok 1'
-one=$(serial_of small/empty 1)
-is 'file 1' "$(bytes_of "$(file_at small/empty 1)")" "$(header_of "$one" 0 4096 1)$(record "$one" 1 0)$(fillers "$one" 1 31)"
+one=$(serial_of grown/empty 1)
+is 'file 1' "$(bytes_of "$(file_at grown/empty 1)")" "$(header_of "$one" 0 4096 1)$(record "$one" 1 0)$(fillers "$one" 1 31)"
 
 scenario='a full file, and the next'
 puts 4032 1 >puts.txt
-run small/full run 1 4 <puts.txt
+run grown/full run 1 4 <puts.txt
 is status "$status" 0
 is replies "$out" $'ok\nok 1\nok 2'
-one=$(serial_of small/full 1)
-two=$(serial_of small/full 2)
-is 'file 1' "$(bytes_of "$(file_at small/full 1)")" "$(header_of "$one" 0 4096 1)$(record "$one" 1 4032)"
-is 'file 2' "$(bytes_of "$(file_at small/full 2)")" "$(header_of "$two" 1 4096 2)$(record "$two" 2 1)$(fillers "$two" 2 31)"
+one=$(serial_of grown/full 1)
+two=$(serial_of grown/full 2)
+is 'file 1' "$(bytes_of "$(file_at grown/full 1)")" "$(header_of "$one" 0 4096 1)$(record "$one" 1 4032)"
+is 'file 2' "$(bytes_of "$(file_at grown/full 2)")" "$(header_of "$two" 1 4096 2)$(record "$two" 2 1)$(fillers "$two" 2 31)"
 
 scenario='a record over two files'
 puts 4033 >puts.txt
-run small/over run 1 4 <puts.txt
+run grown/over run 1 4 <puts.txt
 is status "$status" 0
 is replies "$out" $'ok\nok 1'
-one=$(serial_of small/over 1)
-two=$(serial_of small/over 2)
+one=$(serial_of grown/over 1)
+two=$(serial_of grown/over 2)
 whole=$(record "$one" 1 4033)
 is 'the record' "${#whole}" 8448
-is 'file 1' "$(bytes_of "$(file_at small/over 1)")" "$(header_of "$one" 0 4096 1)${whole:0:8192}"
-is 'file 2' "$(bytes_of "$(file_at small/over 2)")" "$(header_of "$two" 1 4224 2)${whole:8192}$(fillers "$two" 1 31)"
+is 'file 1' "$(bytes_of "$(file_at grown/over 1)")" "$(header_of "$one" 0 4096 1)${whole:0:8192}"
+is 'file 2' "$(bytes_of "$(file_at grown/over 2)")" "$(header_of "$two" 1 4224 2)${whole:8192}$(fillers "$two" 1 31)"
 
 scenario='a body of a mebibyte over 257 files'
 { printf 'queue a\nput a '; head -c 2097152 /dev/zero | tr '\0' '5' | sed 's/55/5a/g'; printf '\n'; } >puts.txt
-run small/long run 1 4 <puts.txt
+run grown/long run 1 4 <puts.txt
 is status "$status" 0
 is replies "$out" $'ok\nok 1'
-is 'files in use' "$(find small/long/inuse -name '*.qls' | wc -l)" 257
-one=$(serial_of small/long 1)
+is 'files in use' "$(find grown/long/inuse -name '*.qls' | wc -l)" 257
+one=$(serial_of grown/long 1)
 start=$(enqueue "$one" 1 1048576)
-is 'file 1' "$(bytes_of "$(file_at small/long 1)")" "$(header_of "$one" 0 4096 1)$start$(repeat 5a 4056)"
+is 'file 1' "$(bytes_of "$(file_at grown/long 1)")" "$(header_of "$one" 0 4096 1)$start$(repeat 5a 4056)"
 wrong=0
 covered=$(repeat 5a 4096)
 for number in 2 3 129 255 256; do
-    bytes=$(bytes_of "$(file_at small/long $number)")
+    bytes=$(bytes_of "$(file_at grown/long $number)")
     [ "$bytes" = "$(header_of "${bytes:16:16}" 1 0 $number)$covered" ] || wrong=$((wrong + 1))
 done
 is 'wholly covered files that are wrong' "$wrong" 0
-last=$(serial_of small/long 257)
+last=$(serial_of grown/long 257)
 tail=$(repeat 5a 40)aeb3ac9a$(adler_run "$start" 1048576)$one$(little 1 8)$(repeat ff 64)
-is 'file 257' "$(bytes_of "$(file_at small/long 257)")" "$(header_of "$last" 1 4224 257)$tail$(fillers "$last" 1 31)"
+is 'file 257' "$(bytes_of "$(file_at grown/long 257)")" "$(header_of "$last" 1 4224 257)$tail$(fillers "$last" 1 31)"
 
 scenario='a body of a byte more'
 { printf 'queue a\nput a '; head -c 2097154 /dev/zero | tr '\0' '5'; printf '\n'; } >puts.txt
-run small/more run 1 4 <puts.txt
+run grown/more run 1 4 <puts.txt
 is status "$status" 0
 is replies "$out" $'ok\nrefused line'
-is 'files in use' "$(find small/more/inuse -name '*.qls' | wc -l)" 1
+is 'files in use' "$(find grown/more/inuse -name '*.qls' | wc -l)" 1
 
 scenario='a folder that is empty, and what a cut left in it'
 mkdir -p store/empty/1/4 store/empty/2/8 store/inuse
