@@ -60,7 +60,7 @@ headed_own o newest (f ∷ fs) (h ∷ hs) t = (own f h t.0, headed_own o (newest
     own : (f : FreshFile) (h : HeadedFile) → h.header ≡ header_for o h.header.serial (newest + 1) f → IsOfOpening o h
     own f h e = e ∙ sym (λ i. header_for o h.header.serial (e i).number (record { first = (e i).first; rid = (e i).rid }))
 
-numbered_more : (o : Opening) (n newest : ℕ) (hs : List HeadedFile) (fs : List FreshFile) (taken : List HeadedFile) → NumberedFrom n hs newest → AreHeaded o newest fs taken → NumberedFrom n (hs ++ taken) (newest + length taken)
+pub numbered_more : (o : Opening) (n newest : ℕ) (hs : List HeadedFile) (fs : List FreshFile) (taken : List HeadedFile) → NumberedFrom n hs newest → AreHeaded o newest fs taken → NumberedFrom n (hs ++ taken) (newest + length taken)
 numbered_more o n newest [] [] [] m t = m ∙ omega arith
 numbered_more o n newest [] [] (h ∷ taken) m t = absurd t
 numbered_more o n newest [] (f ∷ fs) [] m t = absurd t

@@ -87,17 +87,30 @@ headed_front o n [] (h ∷ taken) t e = absurd t
 headed_front o n (f ∷ fs) [] t e = tt
 headed_front o n (f ∷ fs) (h ∷ taken) t e = ap (λ (x : FileHeader). x.first) t.0 ∙ e
 
+planned_leads : (l : LogState) (rs : List Record) (fs : List FreshFile) → 0 < capacity_in l.opening → fs ≡ (plan_of rs l.used (capacity_in l.opening) l.rid).fresh → l.used ≡ capacity_in l.opening → leading fs ≡ 4096
+planned_leads l rs fs some is full =
+    ap leading is ∙ ap (λ used. leading (plan_of rs used (capacity_in l.opening) l.rid).fresh) full
+    ∙ planned_front (capacity_in l.opening) l.rid (with_fillers rs) (fresh_count (capacity_in l.opening) (capacity_in l.opening + block_length (length_of rs))) some
+
 pub begins_at_front : (l : LogState) (rs : List Record) (fs : List FreshFile) (taken : List HeadedFile) → 0 < capacity_in l.opening → AreHeaded l.opening l.newest fs taken
     → fs ≡ (plan_of rs l.used (capacity_in l.opening) l.rid).fresh → l.used ≡ capacity_in l.opening → BeginsAtFront taken
-begins_at_front l rs fs taken some t is full =
-    headed_front l.opening l.newest fs taken t
-    (ap leading is ∙ ap (λ used. leading (plan_of rs used (capacity_in l.opening) l.rid).fresh) full
-    ∙ planned_front (capacity_in l.opening) l.rid (with_fillers rs) (fresh_count (capacity_in l.opening) (capacity_in l.opening + block_length (length_of rs))) some)
+begins_at_front l rs fs taken some t is full = headed_front l.opening l.newest fs taken t (planned_leads l rs fs some is full)
 
-first_of_front : (cap : ℕ) (taken : List HeadedFile) (more : List Headed) → AreThoseFiles cap taken more → 0 < length taken → BeginsAtFront taken → first_place more ≡ 0
-first_of_front cap [] more t some b = absurd (omega arith)
-first_of_front cap (h ∷ taken) [] t some b = absurd t
-first_of_front cap (h ∷ taken) (f ∷ more) t some b =
+leading_take : (k : ℕ) (fs : List FreshFile) → leading fs ≡ 4096 → leading (take k fs) ≡ 4096
+leading_take zero fs e = refl
+leading_take (suc k) [] e = e
+leading_take (suc k) (f ∷ fs) e = e
+
+-- so do the first of the planned files
+pub first_begin_at_front : (l : LogState) (rs : List Record) (fs : List FreshFile) (k : ℕ) (taken : List HeadedFile) → 0 < capacity_in l.opening → AreHeaded l.opening l.newest (take k fs) taken
+    → fs ≡ (plan_of rs l.used (capacity_in l.opening) l.rid).fresh → l.used ≡ capacity_in l.opening → BeginsAtFront taken
+first_begin_at_front l rs fs k taken some t is full = headed_front l.opening l.newest (take k fs) taken t (leading_take k fs (planned_leads l rs fs some is full))
+
+pub first_of_front : (cap : ℕ) (taken : List HeadedFile) (more : List Headed) → AreThoseFiles cap taken more → BeginsAtFront taken → first_place more ≡ 0
+first_of_front cap [] [] t b = refl
+first_of_front cap [] (f ∷ more) t b = absurd t
+first_of_front cap (h ∷ taken) [] t b = absurd t
+first_of_front cap (h ∷ taken) (f ∷ more) t b =
     ap (λ k. cond (eqb k 0) (length f.area + first_place more) (k - 4096)) (ap (λ (x : FileHeader). x.first) t.0.header ∙ b)
 
 -- ---- moments
@@ -157,7 +170,7 @@ those_epoch cap o [] (f ∷ fs) t own = absurd t
 those_epoch cap o (h ∷ hs) [] t own = absurd t
 those_epoch cap o (h ∷ hs) (f ∷ fs) t own = (ap (λ (x : FileHeader). x.epoch) (t.0.header ∙ own.0), those_epoch cap o hs fs t.1 own.1)
 
-those_serials : (cap : ℕ) (hs : List HeadedFile) (fs : List Headed) → AreThoseFiles cap hs fs → AllByRecursion (λ h. IsTrue (is_legal_header h.header)) hs → AllByRecursion (λ f. f.header.serial < 2 ^ 64) fs
+pub those_serials : (cap : ℕ) (hs : List HeadedFile) (fs : List Headed) → AreThoseFiles cap hs fs → AllByRecursion (λ h. IsTrue (is_legal_header h.header)) hs → AllByRecursion (λ f. f.header.serial < 2 ^ 64) fs
 those_serials cap [] [] t legal = tt
 those_serials cap [] (f ∷ fs) t legal = absurd t
 those_serials cap (h ∷ hs) [] t legal = absurd t
@@ -184,7 +197,7 @@ first_fits o h legal own =
         let within : h.header.first + 128 ≤ file_size h.header.kib = most_of (h.header.first + 128) (file_size h.header.kib) parts.1 in
         inr (omega (arith, past, within, kib))
 
-those_first : (cap : ℕ) (o : Opening) (hs : List HeadedFile) (fs : List Headed) → AreThoseFiles cap hs fs → AllByRecursion (λ h. IsTrue (is_legal_header h.header)) hs → AllByRecursion (IsOfOpening o) hs → FirstFits (capacity_in o) fs
+pub those_first : (cap : ℕ) (o : Opening) (hs : List HeadedFile) (fs : List Headed) → AreThoseFiles cap hs fs → AllByRecursion (λ h. IsTrue (is_legal_header h.header)) hs → AllByRecursion (IsOfOpening o) hs → FirstFits (capacity_in o) fs
 those_first cap o [] [] t legal own = tt
 those_first cap o [] (f ∷ fs) t legal own = absurd t
 those_first cap o (h ∷ hs) [] t legal own = absurd t
@@ -346,20 +359,12 @@ module _ (l new : LogState) (sound : IsSound l) (again : IsSound new) (left : Po
         ap first_place old_part.is
         ∙ first_again cap old_files old_part.gs old_part.more (all_capacity cap l.files old_files those_old) (those_first cap l.opening l.files old_files those_old sound.legal sound.own) old_part.heads none_before
       where
-        next_product : (c k : ℕ) → c * (k + 1) ≡ c * k + c
-        next_product c k = grind arith
-
-        some_times : (c k : ℕ) → 0 < c * k → 0 < k
-        some_times c zero h = absurd (omega arith)
-        some_times c (suc k) h = omega arith
-
         -- then the newest file is full, and the batch begins at the front of the next one
         none_before : length (stream old_files) ≤ first_place old_files → first_place old_part.more ≡ 0
         none_before late =
             let reached : first_place old_files ≤ limit = subst (λ n. first_place old_files ≤ n) r.ends (stand_end old_files (first_place old_files) old old_stands) in
             let full : l.used ≡ cap = omega (arith, reached, late, old_size, sound.used.1) in
-            let more : 0 < cap * length taken = omega (arith, lies.room, some, full, next_product cap (length taken)) in
-            first_of_front cap taken old_part.more old_part.those_more (some_times cap (length taken) more) (at_front full)
+            first_of_front cap taken old_part.more old_part.those_more (at_front full)
 
     end_all : end_from (first_place new_files) (old ++ batch) ≡ limit + length_of ws
     end_all =

@@ -1,10 +1,11 @@
 -- Files taken one after another.
-use Rattle.std.proofs.Common.{◌≡◌, ℕ, zero, suc, ◌+◌, List, [], ◌∷◌, ◌++◌, length, take, Option, Some, None, Result, Ok, Err, refl, sym, ap, ◌∙◌, subst, arith}
+use Rattle.std.proofs.Common.{IsTrue, ◌≡◌, ℕ, zero, suc, ◌+◌, List, [], ◌∷◌, ◌++◌, length, take, Option, Some, None, Result, Ok, Err, refl, sym, ap, ◌∙◌, subst, arith}
 use Rattle.std.specs.Prelude.{slice_get}
 use Rattle.std.specs.List.{AllByRecursion}
 use Rattle.qls_model.specs.declared.machine.PoolId.{PoolId}
 use Rattle.qls_site.specs.Disk.{Disk}
 use Rattle.qls_site.specs.Content.{Content, Tells}
+use Rattle.qls_filehdr.specs.Limits.{is_legal_header}
 use Rattle.qls_blocks.specs.declared.plan.FreshFile.{FreshFile}
 use Rattle.qls_pool.specs.Pools.{PoolState}
 use Rattle.qls_pool.specs.Files.{HeadedFile, IsPoolOf, IsWholePool, IdsDiffer, Carries}
@@ -13,7 +14,7 @@ use Rattle.qls_log.specs.declared.opening.Opening.{Opening}
 use Rattle.qls_log.specs.declared.fault.LogError.{LogError}
 use Rattle.qls_log.specs.Logs.{AreHeaded, header_for}
 use Rattle.qls_log.specs.Faults.{Counts}
-use Rattle.qls_log.specs.Taking.{TakesFile, TakesFiles, DrawsOne, DrawsEach}
+use Rattle.qls_log.specs.Taking.{TakesFile, TakesFiles, TakesFirst, DrawsOne, DrawsEach}
 use Rattle.qls_log.proofs.Steps.{then_orderly, Both}
 
 none_there : {A : Type 0} (x : A) → ◌≡◌ {A = Option A} None (Some x) → ⊥
@@ -108,3 +109,9 @@ pub orderly_stays : (E Y : Type 0) {X F : Type 0} (P : Disk → Type 0) (v : X) 
 orderly_stays E Y P v f None b h = tt
 orderly_stays E Y P v f (Some x) None h = tt
 orderly_stays E Y P v f (Some x) (Some y) h = λ d p. let s = h d p in record { since = s.since; moments = s.moments; steps = s.steps }
+
+-- the files so far
+pub takes_first : (o : Opening) (newest : ℕ) (fresh : List FreshFile) (at : ℕ) (pool left : PoolState) (hs : List HeadedFile) (a b : Option Content) → length hs ≡ at → AreHeaded o newest (take at fresh) hs
+    → AllByRecursion (λ h. IsTrue (is_legal_header h.header)) hs → Tells (TakesFiles o.home pool left hs) a b → TakesFirst o newest fresh pool left a b
+takes_first o newest fresh at pool left hs a b count headers legal told =
+    record { files = hs; headers = subst (λ n. AreHeaded o newest (take n fresh) hs) (sym count) headers; legal = legal; told = told }

@@ -164,6 +164,7 @@ pub record GainedAll (o : Opening) (hs taken : List HeadedFile) (newest : ℕ) (
   pub moments : b.moments ≡ a.moments ++ since
   pub last : last_of a.now since ≡ b.now
   pub unmarked : AllUnmarked a.now since → LastUnmarked came
+  pub each : AllUnmarked a.now since → AllByRecursion IsUnmarked came
   pub answered : b.now.answered ≡ a.now.answered
 
 last_two : (m n : Moment) (xs : List Moment) → last_of m (xs ++ n ∷ []) ≡ n
@@ -194,6 +195,7 @@ gained_all o pool left hs [] fs newest n a b t headed legal w numbers r = record
   moments = ap (λ (c : Content). c.moments) t.1 ∙ sym (append-nil a.moments);
   last = sym (ap (λ (c : Content). c.now) t.1);
   unmarked = λ u. tt;
+  each = λ u. tt;
   answered = ap (λ (c : Content). c.now.answered) t.1;
 }
 gained_all o pool left hs (h ∷ taken) [] newest n a b t headed legal w numbers r = absurd headed
@@ -220,6 +222,7 @@ gained_all o pool left hs (h ∷ taken) (f ∷ fs) newest n a b t headed legal w
       unmarked = λ u.
           last_unmarked one.file rest.came (one.unmarked (unmarked_front a.now first rest.since u))
           (rest.unmarked (subst (λ (m : Moment). AllUnmarked m rest.since) at (AllUnmarked-within a.now first rest.since u)));
+      each = λ u. (one.unmarked (unmarked_front a.now first rest.since u), rest.each (subst (λ (m : Moment). AllUnmarked m rest.since) at (AllUnmarked-within a.now first rest.since u)));
       answered = rest.answered ∙ one.answered;
     }
   where

@@ -6,7 +6,7 @@ use Rattle.qls_pool.specs.Pools.{PoolState, IsSpent}
 use Rattle.qls_pool.specs.Files.{HeadedFile, OnDisk, IsPoolOf, IsWholePool}
 use Rattle.qls_pool.specs.Moments.{Passes, Arrives}
 use Rattle.qls_pool.specs.Serials.{DrawsTaken}
-use Rattle.qls_pool.proofs.Moments.{Arrives-then, Arrives-passes, Passes-of, told_same}
+use Rattle.qls_pool.proofs.Moments.{Arrives-then, Arrives-passes, Arrives-weaken, Passes-of, Passes-weaken, told_same}
 use Rattle.qls_pool.proofs.Serials.{drawn_then, drawn_none, tells_none}
 use Rattle.std.specs.List.{AllByRecursion}
 use Rattle.qls_site.specs.Disk.{Disk}
@@ -75,6 +75,17 @@ module _ (R : Moment → Moment → Type 0) where
       → DrawsTaken (is_exact r) a c x z
   draws_on r a b c x y z h k d e = drawn_then R R (is_exact r) a b c x y z h (told_passes r b c k) d e
 
+-- by a weaker step
+weaker_goes : {X : Type 0} (R Q : Moment → Moment → Type 0) → ((m n : Moment) → R m n → Q m n) → (r : Result X LogError) (a b : Content) → GoesBy R r a b → GoesBy Q r a b
+weaker_goes R Q w (Ok x) a b h = Arrives-weaken R Q w a b h
+weaker_goes R Q w (Err Spent) a b h = Arrives-weaken R Q w a b h
+weaker_goes R Q w (Err Failed) a b h = Passes-weaken R Q w a b h
+weaker_goes R Q w (Err Draw) a b h = Passes-weaken R Q w a b h
+weaker_goes R Q w (Err Memory) a b h = Passes-weaken R Q w a b h
+
+pub told_weaker : {X : Type 0} (R Q : Moment → Moment → Type 0) → ((m n : Moment) → R m n → Q m n) → (r : Result X LogError) (a b : Option Content) → Tells (GoesBy R r) a b → Tells (GoesBy Q r) a b
+told_weaker R Q w r a b h = Tells-weaken (GoesBy R r) (GoesBy Q r) a b h (weaker_goes R Q w r)
+
 exact_handed : (X Y : Type 0) (e : LogError) → is_exact {X = X} (Err e) ≡ is_exact {X = Y} (Err e)
 exact_handed X Y Spent = refl
 exact_handed X Y Failed = refl
@@ -114,7 +125,7 @@ told_first o pool (Some c) whole none = may_first o pool c.now.disk (files_on o 
 
 -- ---- the next file of a log
 
-newest_those : (cap n newest : ℕ) (hs : List HeadedFile) (fs : List Headed) → 0 < length hs → NumberedFrom n hs newest → AreThoseFiles cap hs fs → newest_number fs ≡ newest
+pub newest_those : (cap n newest : ℕ) (hs : List HeadedFile) (fs : List Headed) → 0 < length hs → NumberedFrom n hs newest → AreThoseFiles cap hs fs → newest_number fs ≡ newest
 newest_those cap n newest [] fs some m t = absurd (omega (arith, some))
 newest_those cap n newest (h ∷ hs) [] some m t = absurd t
 newest_those cap n newest (h ∷ []) (f ∷ []) some m t = ap (λ (x : FileHeader). x.number) t.0.header ∙ m.0 ∙ omega (arith, m.1)

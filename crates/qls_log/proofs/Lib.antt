@@ -17,11 +17,18 @@ pub mod Places
 pub mod Behind
 pub mod Puts
 pub mod OwnSteps
+pub mod TakeSteps
+pub mod Sectors
+pub mod RestingFiles
+pub mod Passing
+pub mod PartSteps
+pub mod BatchSectors
 pub mod Making
 pub mod Going
 pub mod Quiets
 pub mod OwnWrites
 pub mod AppendSteps
+pub mod Room
 pub mod SoundRules
 pub mod Sound
 pub mod SoundDisk
@@ -29,3 +36,6 @@ pub mod SoundRun
 pub mod Returns
 pub mod Releases
 pub mod SoundLess
+pub mod BackSteps
+pub mod AppendSectors
+pub mod ReadSectors

@@ -1,5 +1,5 @@
 -- A file that is taken, call by call, where the site tells its content.
-use Rattle.std.proofs.Common.{◌≡◌, inl, inr, ℕ, ◌+◌, ◌<◌, Bool, true, false, List, [], ◌∷◌, ◌++◌, map, take, Option, Some, None, IfSome, Ok, Err, IsTrue, refl, sym, ap, ◌∙◌, subst, arith}
+use Rattle.std.proofs.Common.{◌≡◌, inl, inr, ℕ, ◌+◌, ◌<◌, ◌≤◌, Bool, true, false, List, [], ◌∷◌, ◌++◌, map, length, take, Option, Some, None, IfSome, Ok, Err, IsTrue, refl, sym, ap, ◌∙◌, subst, arith}
 use Rattle.std.specs.List.{AllByRecursion}
 use Rattle.qls_model.specs.declared.machine.PoolId.{PoolId}
 use Rattle.qls_site.specs.declared.site.SiteError.{SiteError}
@@ -37,9 +37,11 @@ use Rattle.qls_blocks.specs.declared.plan.FreshFile.{FreshFile}
 use Rattle.qls_log.specs.Logs.{header_for}
 use Rattle.qls_log.specs.Standing.{files_on}
 use Rattle.qls_pool.proofs.Moments.{Arrives-same}
-use Rattle.qls_log.specs.Steps.{IsOwnNext, IsLogStep, GoesBy, is_exact}
+use Rattle.qls_log.specs.Steps.{IsOwnNext, GoesBy, is_exact}
 use Rattle.qls_log.specs.Taking.{TakesFile, MayTake}
 use Rattle.qls_log.proofs.OwnSteps.{own_same, own_step, own_create, empty_changes, link_changes}
+use Rattle.qls_log.proofs.TakeSteps.{longer, some_more, same_last, take_same, take_change, take_create}
+use Rattle.qls_log.specs.Keeping.{MeetsEmpty, WritesEmptyFile, IsTakeStep}
 use Rattle.qls_log.proofs.Splits.{heads, heads-with, heads-unused, full-sync, files-same, is_of-own, split}
 use Rattle.qls_log.proofs.Takes.{blank_found, headed_found, header_seen, journal_after, ids_after, pool_after}
 
@@ -58,46 +60,59 @@ linking f = record f { place = InUse }
 none_again : (m : Moment) → IdsDiffer m.disk → newly_used m m ≡ []
 none_again m differ = none_came m m (none_same m m differ refl)
 
+never : (b : Bool) → b ≡ true → b ≡ false → ⊥
+never b x y = cc
+
+-- the one write to an empty file is the one of these bytes at its front
+front_meets : (bytes : List ℕ) (f : FileState) (part kib : ℕ) → f.place ≡ Empty part kib → 0 + length bytes ≤ 4096 → WritesEmptyFile (Some f) (write bytes f)
+front_meets bytes f part kib at fits w e =
+    let v : Write = record { at = 0; bytes = bytes } in
+    subst (λ p. MeetsEmpty p w) (sym at) (subst (λ (x : Write). x.at + length x.bytes ≤ 4096) (same_last f.pending v w e) fits)
+
 -- ---- a file that is created
 
 module _ (o : Opening) (pool : PoolState) where
   abbrev made : Moment → Moment
   made = created o.home pool.greatest
 
-  made_step : (m : Moment) → IsWholePool pool m.disk → least_id o.home pool.files ≡ None → IsLogStep o m (made m)
+  same_step : (m : Moment) → IdsDiffer m.disk → IsTakeStep o m m
+  same_step m differ = take_same o m differ (own_same o m differ)
+
+  made_step : (m : Moment) → IsWholePool pool m.disk → least_id o.home pool.files ≡ None → IsTakeStep o m (made m)
   made_step m whole none =
-      own_create o (pool.greatest + 1) o.home.part o.home.kib m whole.0 (ap (λ n. n + 1) whole.1.greatest)
-      (create_step o.home pool m whole.0 whole.1 (subst (IsLeastOf (λ j. has o.home.part o.home.kib j pool.files)) none (least_is o.home pool.files)))
+      take_create o (pool.greatest + 1) o.home.part o.home.kib m whole.0 (ap (λ n. n + 1) whole.1.greatest)
+      (own_create o (pool.greatest + 1) o.home.part o.home.kib m whole.0 (ap (λ n. n + 1) whole.1.greatest)
+      (create_step o.home pool m whole.0 whole.1 (subst (IsLeastOf (λ j. has o.home.part o.home.kib j pool.files)) none (least_is o.home pool.files))))
 
   none_made : (m : Moment) → IdsDiffer m.disk → newly_used m (made m) ≡ []
   none_made m differ = none_came m (made m) (none_create (pool.greatest + 1) o.home.part o.home.kib m differ)
 
   -- no file was handed out
-  blank_failed : (e : TakeFault) (x y : Content) → IsWholePool pool x.now.disk → TakesBlank o.home pool (Err e) x y → Took (IsLogStep o) [] x y
+  blank_failed : (e : TakeFault) (x y : Content) → IsWholePool pool x.now.disk → TakesBlank o.home pool (Err e) x y → Took (IsTakeStep o) [] x y
   blank_failed take_fault.Failed x y whole h =
       let m : Moment = x.now in
       record {
         since = m ∷ made m ∷ [];
         moments = h.1.moments;
-        chain = (own_same o m whole.0, (made_step m whole h.0, tt));
+        chain = (same_step m whole.0, (made_step m whole h.0, tt));
         serials = ap (λ (fs : List Headed). serials fs ++ serials_taken m (made m ∷ [])) (none_again m whole.0) ∙ ap (λ (fs : List Headed). serials fs ++ []) (none_made m whole.0);
       }
-  blank_failed take_fault.Draw x y whole h = took_same (IsLogStep o) x y h
-  blank_failed take_fault.Spent x y whole h = took_same (IsLogStep o) x y h
-  blank_failed take_fault.Memory x y whole h = took_same (IsLogStep o) x y h
+  blank_failed take_fault.Draw x y whole h = took_same (IsTakeStep o) x y h
+  blank_failed take_fault.Spent x y whole h = took_same (IsTakeStep o) x y h
+  blank_failed take_fault.Memory x y whole h = took_same (IsTakeStep o) x y h
 
-  pub told_blank_failed : (number : ℕ) (e : TakeFault) (a b : Option Content) → IfSome a (OnDisk (MayTake o pool number)) → Tells (TakesBlank o.home pool (Err e)) a b → Tells (Took (IsLogStep o) []) a b
+  pub told_blank_failed : (number : ℕ) (e : TakeFault) (a b : Option Content) → IfSome a (OnDisk (MayTake o pool number)) → Tells (TakesBlank o.home pool (Err e)) a b → Tells (Took (IsTakeStep o) []) a b
   told_blank_failed number e None None start h = tt
   told_blank_failed number e None (Some y) start h = absurd h
   told_blank_failed number e (Some x) None start h = absurd h
   told_blank_failed number e (Some x) (Some y) start h = blank_failed e x y start.whole h
 
   -- a file was handed out
-  obtained_brought : (x y : Content) → IsWholePool pool x.now.disk → Obtains o.home pool.greatest (least_id o.home pool.files) x y → Brought (IsLogStep o) [] x y
+  obtained_brought : (x y : Content) → IsWholePool pool x.now.disk → Obtains o.home pool.greatest (least_id o.home pool.files) x y → Brought (IsTakeStep o) [] x y
   obtained_brought x y whole obtains = from (least_id o.home pool.files) refl obtains
     where
-      from : (p : Option ℕ) → least_id o.home pool.files ≡ p → Obtains o.home pool.greatest p x y → Brought (IsLogStep o) [] x y
-      from (Some id) e h = brought_same (IsLogStep o) x y h
+      from : (p : Option ℕ) → least_id o.home pool.files ≡ p → Obtains o.home pool.greatest p x y → Brought (IsTakeStep o) [] x y
+      from (Some id) e h = brought_same (IsTakeStep o) x y h
       from None e acts = (
         record { since = made x.now ∷ []; moments = ap (λ (c : Content). c.moments) acts; chain = (made_step x.now whole e, tt); last = ap (λ (c : Content). c.now) acts },
         ap (λ (fs : List Headed). serials fs ++ []) (none_made x.now whole.0),
@@ -125,11 +140,13 @@ pub record IsOwnHeader (o : Opening) (b : BlankFile) (header : FileHeader) : Typ
   pub blank : HeadsBlank b header
   pub kind : header.kind ≡ o.kind
   pub name : header.name ≡ o.name
+  pub part : header.part ≡ o.home.part
+  pub kib : header.kib ≡ o.home.kib
   pub epoch : header.epoch ≡ o.epoch
 
 module _ (o : Opening) (b : BlankFile) (header : FileHeader) (own : IsOwnHeader o b header) where
   abbrev R : Moment → Moment → Type 0
-  R = IsLogStep o
+  R = IsTakeStep o
 
   abbrev value : HeadedFile
   value = record { id = b.id; header = header }
@@ -156,15 +173,19 @@ module _ (o : Opening) (b : BlankFile) (header : FileHeader) (own : IsOwnHeader 
     found_first : file_of b.id (wrote m).disk ≡ Some (write (header_spelling header) blank.0)
     found_first = own_change b.id (write (header_spelling header)) (λ f. refl) m.disk blank.0 blank.1
 
-    step_first : IsLogStep o m (wrote m)
+    step_first : IsTakeStep o m (wrote m)
     step_first =
-        own_step o b.id (write (header_spelling header)) (λ f. refl) m is.differ blank.0 blank.1 (empty_changes o m blank.0 (write (header_spelling header) blank.0) empty empty)
-        (front_is_step b.id 0 (header_spelling header) m (wrote m) is.differ (omega (arith, header_length header own.legal)) refl)
+        let fits : 0 + length (header_spelling header) ≤ 4096 = omega (arith, header_length header own.legal) in
+        take_change o b.id (write (header_spelling header)) (λ f. refl) m is.differ blank.0 blank.1 empty (front_meets (header_spelling header) blank.0 b.home.part b.home.kib blank.2 fits)
+        (λ used. absurd (never (is_in_use blank.0.place) used empty))
+        (own_step o b.id (write (header_spelling header)) (λ f. refl) m is.differ blank.0 blank.1 (empty_changes o m blank.0 (write (header_spelling header) blank.0) empty empty)
+        (front_is_step b.id 0 (header_spelling header) m (wrote m) is.differ fits refl))
 
-    step_second : IsLogStep o (wrote m) (synced m)
+    step_second : IsTakeStep o (wrote m) (synced m)
     step_second =
         let f : FileState = write (header_spelling header) blank.0 in
-        own_step o b.id sync (λ f. refl) (wrote m) differ_first f found_first (empty_changes o (wrote m) f (sync f) empty empty) (sync_is_step b.id (wrote m) (synced m) differ_first refl)
+        take_change o b.id sync (λ f. refl) (wrote m) differ_first f found_first empty (λ w e. absurd (some_more f.pending w e)) (λ used. refl)
+        (own_step o b.id sync (λ f. refl) (wrote m) differ_first f found_first (empty_changes o (wrote m) f (sync f) empty empty) (sync_is_step b.id (wrote m) (synced m) differ_first refl))
 
     none_first : newly_used m (wrote m) ≡ []
     none_first = none_came m (wrote m) (none_change b.id (write (header_spelling header)) (λ f. refl) (λ f. refl) m is.differ)
@@ -200,16 +221,19 @@ module _ (o : Opening) (b : BlankFile) (header : FileHeader) (own : IsOwnHeader 
         legal = reads_header header head.0 own.legal head.2.2;
         kind = own.kind;
         name = own.name;
+        part = own.part;
+        kib = own.kib;
         epoch = own.epoch;
         number = sym is.next ∙ ap (λ (fs : List Headed). newest_number fs + 1) (sym files_second);
       }
 
-      step_third : IsLogStep o (synced m) (put_in_use b.id (synced m))
+      step_third : IsTakeStep o (synced m) (put_in_use b.id (synced m))
       step_third =
-          own_step o b.id linking (λ f. refl) (synced m) differ_second head.0 head.1
+          take_change o b.id linking (λ f. refl) (synced m) differ_second head.0 head.1 (ap is_in_use head.2.0) (λ w e. absurd (longer head.0.pending w e)) (λ used. head.2.1)
+          (own_step o b.id linking (λ f. refl) (synced m) differ_second head.0 head.1
           (link_changes o (synced m) head.0 (linking head.0) header (ap is_in_use head.2.0)
           (is_of-own o.kind o.name (headed (full_file (linking head.0))) (ap (λ (h : FileHeader). h.kind) seen ∙ own.kind) (ap (λ (h : FileHeader). h.name) seen ∙ own.name)) is_next)
-          (link_step value (synced m) own.legal differ_second there least_own)
+          (link_step value (synced m) own.legal differ_second there least_own))
 
       came_third : newly_used (synced m) (put_in_use b.id (synced m)) ≡ headed (full_file (linking head.0)) ∷ []
       came_third = link_came (synced m) b.id head.0 differ_second head.1 (ap is_in_use head.2.0)
@@ -232,7 +256,7 @@ module _ (o : Opening) (b : BlankFile) (header : FileHeader) (own : IsOwnHeader 
       record {
         since = first ∷ first ∷ [];
         moments = moments ∙ ap (λ (ms : List Moment). y.moments ++ ms) k;
-        chain = (step_first y.now is, (own_same o first (differ_first y.now is), tt));
+        chain = (step_first y.now is, (take_same o first (differ_first y.now is) (own_same o first (differ_first y.now is)), tt));
         serials =
             ap (λ (fs : List Headed). serials fs ++ serials_taken first (first ∷ [])) (none_first y.now is)
             ∙ ap (λ (fs : List Headed). serials fs ++ []) (none_again first (differ_first y.now is));
@@ -269,7 +293,7 @@ module _ (o : Opening) (b : BlankFile) (header : FileHeader) (own : IsOwnHeader 
         inr (record {
           since = z.now ∷ put_in_use b.id z.now ∷ [];
           moments = may.moments;
-          chain = subst (λ (n : Moment). Chain R n (n ∷ put_in_use b.id n ∷ [])) (sym at) (own_same o m differ, (step_third y.now is there_now least_now, tt));
+          chain = subst (λ (n : Moment). Chain R n (n ∷ put_in_use b.id n ∷ [])) (sym at) (take_same o m differ (own_same o m differ), (step_third y.now is there_now least_now, tt));
           serials =
               ap (λ (n : Moment). serials_taken n (n ∷ put_in_use b.id n ∷ [])) at
               ∙ ap (λ (fs : List Headed). serials fs ++ serials_taken m (put_in_use b.id m ∷ [])) (none_again m differ) ∙ serials_third y.now is there_now least_now;
@@ -349,11 +373,11 @@ drawn_kept exact e a b (Some x) (Some y) h d = drawn_none exact a b (Some x) (So
 
 -- after what the pool answered
 pub told_blank_goes : (o : Opening) (pool : PoolState) (number : ℕ) (X : Type 0) (e : TakeFault) (a b : Option Content) → IfSome a (OnDisk (MayTake o pool number)) → Tells (TakesBlank o.home pool (Err e)) a b
-    → Tells (GoesBy {X = X} (IsLogStep o) (Err (fault_of_take e))) a b
-told_blank_goes o pool number X take_fault.Failed a b start h = told_took (IsLogStep o) [] a b (told_blank_failed o pool number take_fault.Failed a b start h)
-told_blank_goes o pool number X take_fault.Draw a b start h = told_took (IsLogStep o) [] a b (told_blank_failed o pool number take_fault.Draw a b start h)
-told_blank_goes o pool number X take_fault.Spent a b start h = Tells-weaken (λ x y. y ≡ x) (Arrives (IsLogStep o)) a b h (λ x y. Arrives-same (IsLogStep o) x y)
-told_blank_goes o pool number X take_fault.Memory a b start h = told_took (IsLogStep o) [] a b (told_blank_failed o pool number take_fault.Memory a b start h)
+    → Tells (GoesBy {X = X} (IsTakeStep o) (Err (fault_of_take e))) a b
+told_blank_goes o pool number X take_fault.Failed a b start h = told_took (IsTakeStep o) [] a b (told_blank_failed o pool number take_fault.Failed a b start h)
+told_blank_goes o pool number X take_fault.Draw a b start h = told_took (IsTakeStep o) [] a b (told_blank_failed o pool number take_fault.Draw a b start h)
+told_blank_goes o pool number X take_fault.Spent a b start h = Tells-weaken (λ x y. y ≡ x) (Arrives (IsTakeStep o)) a b h (λ x y. Arrives-same (IsTakeStep o) x y)
+told_blank_goes o pool number X take_fault.Memory a b start h = told_took (IsTakeStep o) [] a b (told_blank_failed o pool number take_fault.Memory a b start h)
 
 -- after a fault of the site
 pub site_goes : (R : Moment → Moment → Type 0) (X : Type 0) (e : SiteError) (a b : Option Content) → Tells (Passes R) a b → Tells (GoesBy {X = X} R (Err (fault_of_site e))) a b
@@ -390,6 +414,8 @@ own_header o b fresh h serial number is own at legal = record {
   };
   kind = ap (λ (x : FileHeader). x.kind) is;
   name = ap (λ (x : FileHeader). x.name) is;
+  part = ap (λ (x : FileHeader). x.part) is;
+  kib = ap (λ (x : FileHeader). x.kib) is;
   epoch = ap (λ (x : FileHeader). x.epoch) is;
 }
 

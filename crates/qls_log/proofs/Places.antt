@@ -1,5 +1,5 @@
 -- Where records lie in the files of one epoch, and where their reading ends.
-use Rattle.std.proofs.Common.{◌≡◌, ◌⊎◌, inl, inr, ℕ, suc, ◌+◌, ◌-◌, ◌*◌, ◌/◌, ◌%◌, ◌^◌, ◌<◌, ◌≤◌, Bool, true, false, cond, eqb, ltb, List, [], ◌∷◌, ◌++◌, map, length, drop, Option, Some, None, refl, sym, ap, ap₂, ◌∙◌, subst, arith, length-append, append-nil, T, ltb→lt}
+use Rattle.std.proofs.Common.{◌≡◌, ◌⊎◌, inl, inr, ℕ, suc, ◌+◌, ◌-◌, ◌*◌, ◌/◌, ◌%◌, ◌^◌, ◌<◌, ◌≤◌, Bool, true, false, cond, eqb, ltb, List, [], ◌∷◌, ◌++◌, map, length, drop, Option, Some, refl, sym, ap, ap₂, ◌∙◌, subst, arith, length-append, append_assoc, append-nil, T, ltb→lt}
 use Rattle.std.proofs.Math.Nat.{div-eq_of_lt, mod-eq_of_lt, mod-eq-sub-mod}
 use Rattle.std.proofs.Math.Seq.{drop-drop, drop-append_seam}
 use Rattle.std.specs.List.{AllByRecursion}
@@ -293,11 +293,16 @@ stream_length cap (f ∷ fs) h = length-append f.area (stream fs) ∙ ap₂ (λ 
     more : (c n : ℕ) → c + c * n ≡ c * suc n
     more c n = grind arith
 
--- no record stands behind what is unmarked in the last file, nor at the end of the stream
-pub unmarked_end : (cap u unit : ℕ) (fs : List Headed) → HaveCapacity cap fs → AllByRecursion (λ f. f.header.serial < 2 ^ 64) fs → 0 < length fs → u ≡ 128 * unit → u ≤ cap → cap % 128 ≡ 0 → LastIsUnmarked u fs
-    → IsUnmarkedAt fs (cap * (length fs - 1) + u)
-unmarked_end cap u unit [] have fit some at low whole k = absurd (omega arith)
-unmarked_end cap u unit (g ∷ gs) have fit some at low whole k =
+-- no record can stand at the front of the first of these files
+abbrev pub FrontIsUnmarked : List Headed → Type 0
+FrontIsUnmarked [] = Unit {0}
+FrontIsUnmarked (f ∷ fs) = (f.header.serial < 2 ^ 64) × (128 ≤ length f.area) × IsUnmarkedFrom f.header.serial 0 f.area
+
+-- no record stands behind what is unmarked in the last file, nor at the front of the file behind it
+pub unmarked_then : (cap u unit : ℕ) (fs more : List Headed) → HaveCapacity cap fs → AllByRecursion (λ f. f.header.serial < 2 ^ 64) fs → 0 < length fs → u ≡ 128 * unit → u ≤ cap → cap % 128 ≡ 0 → LastIsUnmarked u fs
+    → FrontIsUnmarked more → IsUnmarkedAt (fs ++ more) (cap * (length fs - 1) + u)
+unmarked_then cap u unit [] more have fit some at low whole k front = absurd (omega arith)
+unmarked_then cap u unit (g ∷ gs) more have fit some at low whole k front =
     let e : Ending (g ∷ gs) = ending g gs in
     let f : Headed = e.last in
     let parts : HaveCapacity cap (e.front ++ f ∷ []) = subst (HaveCapacity cap) e.is have in
@@ -307,16 +312,27 @@ unmarked_end cap u unit (g ∷ gs) have fit some at low whole k =
     let count : length (g ∷ gs) ≡ length e.front + 1 = ap length e.is ∙ length-append e.front (f ∷ []) in
     let before : cap * (length (g ∷ gs) - 1) ≡ length (stream e.front) =
     ap (λ n. cap * n) (omega (arith, count)) ∙ sym (stream_length cap e.front (all_front (λ f. length f.area ≡ cap) e.front f parts)) in
-    let held : holder (e.front ++ f ∷ []) (length (stream e.front) + u) ≡ holder (f ∷ []) u = holder-behind e.front (f ∷ []) u in
-    subst (λ n. IsUnmarkedAt (g ∷ gs) (n + u)) (sym before)
-    (subst (λ (fs : List Headed). IsUnmarkedAt fs (length (stream e.front) + u)) (sym e.is)
+    let all : (g ∷ gs) ++ more ≡ e.front ++ f ∷ more = ap (λ (fs : List Headed). fs ++ more) e.is ∙ append_assoc e.front (f ∷ []) more in
+    let held : holder (e.front ++ f ∷ more) (length (stream e.front) + u) ≡ holder (f ∷ more) u = holder-behind e.front (f ∷ more) u in
+    subst (λ n. IsUnmarkedAt ((g ∷ gs) ++ more) (n + u)) (sym before)
+    (subst (λ (fs : List Headed). IsUnmarkedAt fs (length (stream e.front) + u)) (sym all)
     (by f e.front size serial u_last held (Rattle.std.proofs.lemmas.Bool.cases_lt u cap)))
   where
-    by : (f : Headed) (front : List Headed) → length f.area ≡ cap → f.header.serial < 2 ^ 64 → IsUnmarkedFrom f.header.serial u f.area → holder (front ++ f ∷ []) (length (stream front) + u) ≡ holder (f ∷ []) u
-        → (u < cap) ⊎ (cap ≤ u) → IsUnmarkedAt (front ++ f ∷ []) (length (stream front) + u)
-    by f front size serial k held (inl l) =
-        held_unmarked (front ++ f ∷ []) (length (stream front) + u) unit (record { file = f; within = u }) (held ∙ within f [] u (omega (arith, l, size))) serial at (omega (arith, l, at, size, whole))
+    at_front : (fs cs : List Headed) (p : ℕ) → FrontIsUnmarked cs → holder fs p ≡ holder cs 0 → IsUnmarkedAt fs p
+    at_front fs [] p c is = subst (λ (o : Option Holder). UnmarkedFor o (drop p (stream fs))) (sym is) tt
+    at_front fs (c ∷ cs) p u is =
+        held_unmarked fs p 0 (record { file = c; within = 0 }) (is ∙ within c cs 0 (omega (arith, u.1))) u.0 refl (omega (arith, u.1)) u.2
+
+    by : (f : Headed) (front : List Headed) → length f.area ≡ cap → f.header.serial < 2 ^ 64 → IsUnmarkedFrom f.header.serial u f.area → holder (front ++ f ∷ more) (length (stream front) + u) ≡ holder (f ∷ more) u
+        → (u < cap) ⊎ (cap ≤ u) → IsUnmarkedAt (front ++ f ∷ more) (length (stream front) + u)
+    by f before size serial k held (inl l) =
+        held_unmarked (before ++ f ∷ more) (length (stream before) + u) unit (record { file = f; within = u }) (held ∙ within f more u (omega (arith, l, size))) serial at (omega (arith, l, at, size, whole))
         (subst (λ n. IsUnmarkedFrom f.header.serial n f.area) at k)
-    by f front size serial k held (inr l) =
-        let none : holder (front ++ f ∷ []) (length (stream front) + u) ≡ None = held ∙ behind f [] u (omega (arith, l, size)) in
-        subst (λ (o : Option Holder). UnmarkedFor o (drop (length (stream front) + u) (stream (front ++ f ∷ [])))) (sym none) tt
+    by f before size serial k held (inr l) =
+        at_front (before ++ f ∷ more) more (length (stream before) + u) front (held ∙ behind f more u (omega (arith, l, size)) ∙ ap (holder more) (omega (arith, l, low, size)))
+
+-- nor at the end of the stream
+pub unmarked_end : (cap u unit : ℕ) (fs : List Headed) → HaveCapacity cap fs → AllByRecursion (λ f. f.header.serial < 2 ^ 64) fs → 0 < length fs → u ≡ 128 * unit → u ≤ cap → cap % 128 ≡ 0 → LastIsUnmarked u fs
+    → IsUnmarkedAt fs (cap * (length fs - 1) + u)
+unmarked_end cap u unit fs have fit some at low whole k =
+    subst (λ (gs : List Headed). IsUnmarkedAt gs (cap * (length fs - 1) + u)) (append-nil fs) (unmarked_then cap u unit fs [] have fit some at low whole k tt)

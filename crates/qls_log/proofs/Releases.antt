@@ -104,7 +104,7 @@ differ_by m n h = from (m == n) refl
     from false e = e
 
 -- no kept file is among those that are given back
-abbrev NotGiven : List HeadedFile → List HeadedFile → Type 0
+abbrev pub NotGiven : List HeadedFile → List HeadedFile → Type 0
 NotGiven given kept = AllByRecursion (λ g. is_among g.id (ids given) ≡ false) kept
 
 more_apart : (h : HeadedFile) (given kept : List HeadedFile) → AllByRecursion (λ g. (g.id ≡ h.id) → ⊥) kept → NotGiven given kept → NotGiven (h ∷ given) kept
@@ -119,7 +119,7 @@ rest_of : (P : HeadedFile → Type 0) (given kept : List HeadedFile) → AllByRe
 rest_of P [] kept a = a
 rest_of P (h ∷ given) kept a = rest_of P given kept a.1
 
-apart_given : (given kept : List HeadedFile) → AreApart (given ++ kept) → NotGiven given kept
+pub apart_given : (given kept : List HeadedFile) → AreApart (given ++ kept) → NotGiven given kept
 apart_given [] kept a = none_given kept
 apart_given (h ∷ given) kept a = more_apart h given kept (rest_of (λ g. (g.id ≡ h.id) → ⊥) given kept a.0) (apart_given given kept a.1)
 

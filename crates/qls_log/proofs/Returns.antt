@@ -36,7 +36,7 @@ no_both b x y = cc
 
 -- ---- the journal without its oldest file
 
-those_above : (id cap k n last : ℕ) (hs : List HeadedFile) (fs : List Headed) → n < k → NumberedFrom k hs last → AreThoseFiles cap hs fs → AllByRecursion (IsOrAbove id n) fs
+pub those_above : (id cap k n last : ℕ) (hs : List HeadedFile) (fs : List Headed) → n < k → NumberedFrom k hs last → AreThoseFiles cap hs fs → AllByRecursion (IsOrAbove id n) fs
 those_above id cap k n last [] [] l m t = tt
 those_above id cap k n last [] (f ∷ fs) l m t = absurd t
 those_above id cap k n last (h ∷ hs) [] l m t = absurd t
@@ -44,12 +44,12 @@ those_above id cap k n last (h ∷ hs) (f ∷ fs) l m t =
     let number : f.header.number ≡ k = ap (λ (x : FileHeader). x.number) t.0.header ∙ m.0 in
     (λ apart. omega (arith, number, l), those_above id cap (k + 1) n last hs fs (omega (arith, l)) m.1 t.1)
 
-first_above : (cap n last : ℕ) (h : HeadedFile) (hs : List HeadedFile) (fs : List Headed) → NumberedFrom n (h ∷ hs) last → AreThoseFiles cap (h ∷ hs) fs → AllByRecursion (IsOrAbove h.id n) fs
+pub first_above : (cap n last : ℕ) (h : HeadedFile) (hs : List HeadedFile) (fs : List Headed) → NumberedFrom n (h ∷ hs) last → AreThoseFiles cap (h ∷ hs) fs → AllByRecursion (IsOrAbove h.id n) fs
 first_above cap n last h hs [] m t = absurd t
 first_above cap n last h hs (f ∷ fs) m t =
     (λ apart. absurd (no_both (f.id == h.id) (ap (λ i. i == h.id) t.0.id ∙ eqb_own h.id) apart), those_above h.id cap (n + 1) n last hs fs (omega arith) m.1 t.1)
 
-differ_by : (m n : ℕ) → ((m ≡ n) → ⊥) → (m == n) ≡ false
+pub differ_by : (m n : ℕ) → ((m ≡ n) → ⊥) → (m == n) ≡ false
 differ_by m n h = from (m == n) refl
   where
     from : (b : Bool) → (m == n) ≡ b → (m == n) ≡ false
@@ -59,7 +59,7 @@ differ_by m n h = from (m == n) refl
 turned_off : (m n : ℕ) → ((m == n) || false) ≡ false → (n == m) ≡ false
 turned_off m n e = grind (arith, nat_tests, e)
 
-linked_found : (h : HeadedFile) (o : Option FileState) → IsLinked h o → (f : FileState) × (o ≡ Some f) × IsLinked h (Some f)
+pub linked_found : (h : HeadedFile) (o : Option FileState) → IsLinked h o → (f : FileState) × (o ≡ Some f) × IsLinked h (Some f)
 linked_found h None k = absurd k
 linked_found h (Some f) k = (f, refl, k)
 
@@ -158,27 +158,27 @@ module _ (o : Opening) (pool left : PoolState) (h : HeadedFile) (hs : List Heade
 
 -- ---- in a row
 
-backs_append : (xs ys : List HeadedFile) (c : Content) → with_backs (xs ++ ys) c ≡ with_backs ys (with_backs xs c)
+pub backs_append : (xs ys : List HeadedFile) (c : Content) → with_backs (xs ++ ys) c ≡ with_backs ys (with_backs xs c)
 backs_append [] ys c = refl
 backs_append (x ∷ xs) ys c = backs_append xs ys (with_back x c)
 
-or_false : (a b : Bool) → (a || b) ≡ false → (a ≡ false) × (b ≡ false)
+pub or_false : (a b : Bool) → (a || b) ≡ false → (a ≡ false) × (b ≡ false)
 or_false true b e = absurd (cc)
 or_false false b e = (refl, e)
 
-among_parts : (id : ℕ) (xs ys : List HeadedFile) → is_among id (ids (xs ++ ys)) ≡ false → (is_among id (ids xs) ≡ false) × (is_among id (ids ys) ≡ false)
+pub among_parts : (id : ℕ) (xs ys : List HeadedFile) → is_among id (ids (xs ++ ys)) ≡ false → (is_among id (ids xs) ≡ false) × (is_among id (ids ys) ≡ false)
 among_parts id [] ys e = (refl, e)
 among_parts id (x ∷ xs) ys e =
     let both = or_false (x.id == id) (is_among id (ids (xs ++ ys))) e in
     let rest = among_parts id xs ys both.1 in
     (ap₂ (λ a b. a || b) both.0 rest.0, rest.1)
 
-returned_none : (o : Opening) (pool : PoolState) (hs : List HeadedFile) (x : Content) → MayReturn o pool hs x.now.disk → Returned o pool hs [] x x
+pub returned_none : (o : Opening) (pool : PoolState) (hs : List HeadedFile) (x : Content) → MayReturn o pool hs x.now.disk → Returned o pool hs [] x x
 returned_none o pool hs x may =
     let arrives : Arrives (IsLogStep o) x x = Arrives-same (IsLogStep o) x x refl in
     record { told = refl; arrives = arrives; none = ap (serials_taken x.now) (since_of (IsLogStep o) x x arrives); others = λ id e. refl; may = may }
 
-returned_then : (o : Opening) (between left : PoolState) (hs gs done more : List HeadedFile) (x y z : Content) → Returned o between hs done x y → Returned o left gs more y z → Returned o left gs (done ++ more) x z
+pub returned_then : (o : Opening) (between left : PoolState) (hs gs done more : List HeadedFile) (x y z : Content) → Returned o between hs done x y → Returned o left gs more y z → Returned o left gs (done ++ more) x z
 returned_then o between left hs gs done more x y z h k = record {
   told = k.told ∙ ap (with_backs more) h.told ∙ sym (backs_append done more x);
   arrives = Arrives-then (IsLogStep o) x y z h.arrives k.arrives;

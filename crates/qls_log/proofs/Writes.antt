@@ -1,18 +1,19 @@
 -- One write after another.
-use Rattle.std.proofs.Common.{◌≡◌, ℕ, zero, suc, ◌+◌, ◌-◌, ◌*◌, ◌%◌, ◌<◌, ◌≤◌, true, false, cond, ◌==◌, min, get_or, List, [], ◌∷◌, ◌++◌, length, take, drop, Option, Some, None, Result, Ok, Err, IfSome, IsErr, refl, sym, ap, ap₂, ◌∙◌, subst, arith, option_map, length-take, length-drop}
+use Rattle.std.proofs.Common.{◌≡◌, ℕ, zero, suc, ◌+◌, ◌-◌, ◌*◌, ◌%◌, ◌<◌, ◌≤◌, Bool, true, false, cond, ◌==◌, min, get_or, List, [], ◌∷◌, ◌++◌, length, take, drop, Option, Some, None, Result, Ok, Err, IfSome, IsErr, refl, sym, ap, ap₂, ◌∙◌, subst, arith, option_map, length-take, length-drop, append_assoc, append-nil}
 use Rattle.qls_site.specs.declared.site.SiteError.{SiteError}
 use Rattle.qls_site.specs.declared.site.SiteError.TheVariants.{Failed, Memory}
 use Rattle.qls_site.specs.Disk.{Disk, FileState, file_of, full, changed, change_file, all_written, write_at, size_of}
-use Rattle.qls_site.specs.Content.{Content, Tells, Acts, Leads, HasRange, InFile, on_disk}
-use Rattle.qls_site.proofs.Told.{file_of-change_file}
+use Rattle.qls_site.specs.Content.{Moment, Content, Tells, Acts, Leads, HasRange, InFile, on_disk}
+use Rattle.qls_site.proofs.Told.{file_of-change_file, Tells-then}
 use Rattle.qls_site.proofs.DiskLaws.{length-written}
 use Rattle.qls_meaning.specs.Journals.{is_in_use}
 use Rattle.qls_meaning.specs.History.{is_file_in_use}
-use Rattle.qls_pool.specs.Files.{IdsDiffer}
+use Rattle.qls_pool.specs.Files.{HeadedFile, IdsDiffer}
+use Rattle.qls_log.specs.Logs.{ids}
 use Rattle.qls_pool.specs.Discipline.{EndsPoolSteps, AddsPoolSteps, Orderly}
 use Rattle.qls_pool.proofs.Steps.{ends_one, ends_none, ends_then, ends_adds, adds_none, differ_change}
 use Rattle.qls_pool.proofs.Calls.{by_err}
-use Rattle.qls_log.specs.Writing.{with_write, with_parts, HaveRoom, AreInUse, WritesParts}
+use Rattle.qls_log.specs.Writing.{with_write, with_parts, HaveRoom, AreInUse, StopsParts, WritesParts}
 use Rattle.qls_log.proofs.Steps.{write_step}
 
 -- what is left to write comes to the same as the whole
@@ -117,11 +118,84 @@ past_end zero (x ∷ xs) h = absurd (omega arith)
 past_end (suc k) (x ∷ xs) h = past_end k xs (omega arith)
 
 pub told_all : (capacity at k : ℕ) (left ids : List ℕ) (from : ℕ) (bytes : List ℕ) (x : Unit {0}) (a b : Option Content) → length ids ≤ k → Tells (WritesOn capacity (drop k ids) at left ids from bytes) a b
-    → Tells (WritesParts capacity ids from bytes (Ok x)) a b
+    → Tells (WritesParts {E = SiteError} capacity ids from bytes (Ok x)) a b
 told_all capacity at k left ids from bytes x None None h t = tt
 told_all capacity at k left ids from bytes x None (Some z) h t = absurd t
 told_all capacity at k left ids from bytes x (Some y) None h t = absurd t
 told_all capacity at k left ids from bytes x (Some y) (Some z) h t = ap (λ (is : List ℕ). with_parts capacity is at left z) (sym (past_end k ids h)) ∙ t
+
+-- ---- a write that failed
+
+-- moments were only added
+abbrev pub Adds : Content → Content → Type 0
+Adds x y = (since : List Moment) × (y.moments ≡ x.moments ++ since)
+
+pub adds_same : (a : Option Content) → Tells Adds a a
+adds_same None = tt
+adds_same (Some x) = ([], sym (append-nil x.moments))
+
+pub told_adds : (act : Moment → Moment) (a b n : Option Content) → Tells Adds a b → Tells (Acts act) b n → Tells Adds a n
+told_adds act a b n h t =
+    Tells-then Adds (Acts act) Adds a b n h t (λ x y z p q. (p.0 ++ act y.now ∷ [], ap (λ (c : Content). c.moments) q ∙ ap (λ (ms : List Moment). ms ++ act y.now ∷ []) p.1 ∙ append_assoc x.moments p.0 (act y.now ∷ [])))
+
+pub parts_add : (capacity : ℕ) (ids : List ℕ) (from : ℕ) (bytes : List ℕ) (c : Content) → Adds c (with_parts capacity ids from bytes c)
+parts_add capacity [] from bytes c = ([], sym (append-nil c.moments))
+parts_add capacity (id ∷ ids) from bytes c =
+    let n : Content = with_write id (4096 + from) (take (capacity - from) bytes) c in
+    let rest = parts_add capacity ids 0 (drop (capacity - from) bytes) n in
+    (n.now ∷ rest.0, rest.1 ∙ append_assoc c.moments (n.now ∷ []) rest.0)
+
+-- nothing was written
+pub stops_same : (capacity : ℕ) (ids : List ℕ) (from : ℕ) (bytes : List ℕ) (x y : Content) → y ≡ x → StopsParts capacity ids from bytes x y
+stops_same capacity ids from bytes x y e =
+    let all = parts_add capacity ids from bytes x in
+    record {
+      since = [];
+      moments = ap (λ (c : Content). c.moments) e ∙ sym (append-nil x.moments);
+      rest = all.0;
+      whole = all.1 ∙ ap (λ (c : Content). c.moments ++ all.0) (sym e);
+    }
+
+module _ (capacity at k done more : ℕ) (ids bytes part : List ℕ) (from : ℕ) (there : k < length ids) (size : more ≡ min (length bytes - done) (capacity - at)) (is : part ≡ take more (drop done bytes)) where
+  stops_here : (e : SiteError) (x y z : Content) → WritesOn capacity (drop k ids) at (drop done bytes) ids from bytes x y → Adds x y
+      → Leads {X = Unit {0}} (Acts (on_disk (write_at (get_or ids k 0) (4096 + at) part))) (Acts (on_disk (write_at (get_or ids k 0) (4096 + at) part))) (Err e) y z → StopsParts capacity ids from bytes x z
+  stops_here Failed x y z on adds acts =
+      let act : Moment → Moment = on_disk (write_at (get_or ids k 0) (4096 + at) part) in
+      let rest = parts_add capacity (drop (k + 1) ids) 0 (drop (done + more) bytes) z in
+      record {
+        since = adds.0 ++ act y.now ∷ [];
+        moments = ap (λ (c : Content). c.moments) acts ∙ ap (λ (ms : List Moment). ms ++ act y.now ∷ []) adds.1 ∙ append_assoc x.moments adds.0 (act y.now ∷ []);
+        rest = rest.0;
+        whole = ap (λ (c : Content). c.moments) (sym (wrote_next capacity at k done more ids bytes part from x y z there size is on acts)) ∙ rest.1;
+      }
+  stops_here Memory x y z on adds same =
+      let rest = parts_add capacity (drop k ids) at (drop done bytes) y in
+      record {
+        since = adds.0;
+        moments = ap (λ (c : Content). c.moments) same ∙ adds.1;
+        rest = rest.0;
+        whole = ap (λ (c : Content). c.moments) (sym on) ∙ rest.1 ∙ ap (λ (c : Content). c.moments ++ rest.0) (sym same);
+      }
+
+  pub told_stops : (e : SiteError) (a b n : Option Content) → Tells (WritesOn capacity (drop k ids) at (drop done bytes) ids from bytes) a b → Tells Adds a b
+      → Tells (Leads {X = Unit {0}} (Acts (on_disk (write_at (get_or ids k 0) (4096 + at) part))) (Acts (on_disk (write_at (get_or ids k 0) (4096 + at) part))) (Err e)) b n → Tells (StopsParts capacity ids from bytes) a n
+  told_stops e None None None on adds t = tt
+  told_stops e None None (Some z) on adds t = absurd t
+  told_stops e None (Some y) n on adds t = absurd on
+  told_stops e (Some x) None n on adds t = absurd on
+  told_stops e (Some x) (Some y) None on adds t = absurd t
+  told_stops e (Some x) (Some y) (Some z) on adds t = stops_here e x y z on adds t
+
+pub told_err_parts : {X E : Type 0} (capacity : ℕ) (ids : List ℕ) (from : ℕ) (bytes : List ℕ) (r : Result X E) (a b : Option Content) → IsErr r → Tells (StopsParts capacity ids from bytes) a b → Tells (WritesParts capacity ids from bytes r) a b
+told_err_parts {X} {E} capacity ids from bytes (Ok x) a b is t = absurd (not_ok x is)
+  where
+    not_ok : (x : X) → IsErr {T = X} {E = E} (Ok x) → ⊥
+    not_ok x e = cc
+told_err_parts capacity ids from bytes (Err e) a b is t = t
+
+pub told_no_parts : {X E : Type 0} (capacity : ℕ) (ids : List ℕ) (from : ℕ) (bytes : List ℕ) (r : Result X E) (a : Option Content) → IsErr r → Tells (WritesParts capacity ids from bytes r) a a
+told_no_parts capacity ids from bytes r None is = tt
+told_no_parts capacity ids from bytes r (Some x) is = told_err_parts capacity ids from bytes r (Some x) (Some x) is (stops_same capacity ids from bytes x x refl)
 
 -- ---- sizes
 
@@ -262,3 +336,16 @@ pub ended_in_order : (ids : List ℕ) (x : Unit {0}) (a b : Option Content) → 
 ended_in_order ids x None b h = tt
 ended_in_order ids x (Some y) None h = tt
 ended_in_order ids x (Some y) (Some z) h = λ d u. (h d u).steps
+
+-- ---- a full file isn't written
+
+pub used_room : (x : Bool) (hs : List HeadedFile) (d : Disk) → AreInUse (ids hs) d → AreInUse (ids (cond x (drop 1 hs) hs)) d
+used_room false hs d u = u
+used_room true [] d u = u
+used_room true (h ∷ hs) d u = u.1
+
+pub room_orderly : {X E F : Type 0} (x : Bool) (hs : List HeadedFile) (own : List ℕ) (e : E) (r : Result X F) (a b : Option Content) → own ≡ ids (cond x (drop 1 hs) hs) → IsErr r → Orderly {X = Unit {0}} (AreInUse own) (Err e) a b
+    → Orderly (AreInUse (ids hs)) r a b
+room_orderly x hs own e r None b at is h = tt
+room_orderly x hs own e r (Some y) None at is h = tt
+room_orderly x hs own e r (Some y) (Some z) at is h = λ d u. by_err r y z is (h d (subst (λ (xs : List ℕ). AreInUse xs y.now.disk) (sym at) (used_room x hs y.now.disk u)))

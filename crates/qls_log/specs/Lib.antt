@@ -5,6 +5,9 @@ pub mod Writing
 pub mod Spots
 pub mod Standing
 pub mod Steps
+pub mod Leaving
+pub mod Unwritten
+pub mod Keeping
 pub mod Returning
 pub mod Appending
 pub mod Reads

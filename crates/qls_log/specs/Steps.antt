@@ -1,13 +1,13 @@
 -- What a log's call does from each moment to the next: only its own journal changes.
-use Rattle.std.specs.Prelude.{◌≡◌, ℕ, ◌+◌, ◌-◌, ◌*◌, Bool, true, false, ◌&&◌, List, take, Option, Some, None, IfSome, Result, Ok, Err}
+use Rattle.std.specs.Prelude.{◌≡◌, ℕ, ◌+◌, ◌-◌, ◌*◌, Bool, true, false, ◌&&◌, List, [], ◌∷◌, length, take, Option, Some, None, IfSome, Result, Ok, Err}
 use Rattle.std.specs.List.{AllByRecursion}
 use Rattle.qls_model.specs.Bytes.{same}
 use Rattle.qls_site.specs.Disk.{Disk, FileState, file_of, full_file}
-use Rattle.qls_site.specs.Content.{Moment, Content, Tells}
+use Rattle.qls_site.specs.Content.{Moment, Content, Tells, moments_since}
 use Rattle.qls_filehdr.specs.declared.JournalKind.{JournalKind}
 use Rattle.qls_filehdr.specs.declared.FileHeader.{FileHeader}
 use Rattle.qls_filehdr.specs.Header.{header_of}
-use Rattle.qls_meaning.specs.Journals.{headed, is_in_use, is_of, same_kind}
+use Rattle.qls_meaning.specs.Journals.{Headed, Journal, headed, is_in_use, is_of, same_kind, epochs}
 use Rattle.qls_meaning.specs.Dead.{newest_number}
 use Rattle.qls_meaning.specs.Orderly.{journal_on}
 use Rattle.qls_pool.specs.Discipline.{IsPoolStep}
@@ -17,6 +17,9 @@ use Rattle.qls_pool.specs.Moments.{Passes, Arrives, EndsIn}
 use Rattle.qls_pool.specs.Serials.{TakesNone}
 use Rattle.qls_log.specs.declared.opening.Opening.{Opening}
 use Rattle.qls_meaning.specs.Spent.{batch_meets_end}
+use Rattle.qls_meaning.specs.History.{AllUnmarked}
+use Rattle.qls_meaning.specs.Reading.{Read, stream, epoch_end}
+use Rattle.qls_log.specs.Reads.{IsRead}
 use Rattle.qls_log.specs.Logs.{LogState, capacity_in}
 use Rattle.qls_log.specs.Standing.{files_on}
 use Rattle.qls_log.specs.declared.fault.LogError.{LogError}
@@ -29,11 +32,13 @@ is_own o kind name = same_kind o.kind kind && same o.name name
 
 -- ---- a file of the journal that comes into use
 
--- a legal header of this journal and this epoch, with the number after that of the journal's newest file
+-- a legal header of this journal, this pool and this epoch, with the number after that of the journal's newest file
 pub record IsOwnNext (o : Opening) (m : Moment) (g : FileState) (header : FileHeader) : Type 0 where
   pub legal : header_of (take 4096 g.stable) ≡ Ok header
   pub kind : header.kind ≡ o.kind
   pub name : header.name ≡ o.name
+  pub part : header.part ≡ o.home.part
+  pub kib : header.kib ≡ o.home.kib
   pub epoch : header.epoch ≡ o.epoch
   pub number : header.number ≡ newest_number (journal_on m.disk o.kind o.name).files + 1
 
@@ -115,3 +120,18 @@ room_on l d = let capacity = capacity_in l.opening in capacity * (newest_number 
 -- the batch doesn't fit on the disk as it is, and the next file can't be had
 abbrev pub MeetsEndWith : LogState → ℕ → Disk → Type 0
 MeetsEndWith l needed d = batch_meets_end l.opening.home d (files_on l.opening d) true (room_on l d) needed ≡ true
+
+-- the bytes behind the reading, in the files of the journal's last epoch
+abbrev pub room_in : Bool → List (List Headed) → ℕ
+room_in oldest [] = 0
+room_in oldest (e ∷ []) = length (stream e) - epoch_end oldest e
+room_in oldest (e ∷ f ∷ es) = room_in false (f ∷ es)
+
+abbrev pub room_behind : Journal → ℕ
+room_behind j = room_in true (epochs j.files)
+
+-- where every file that came into use was unmarked, the bytes that are left are those behind the journal's reading
+abbrev pub KeepsRoom : LogState → Content → Content → Type 0
+KeepsRoom l a b =
+    AllUnmarked a.now (moments_since a b) → (reads : List Read) → IsRead l reads a.now.disk
+    → room_behind (journal_on b.now.disk l.opening.kind l.opening.name) ≡ room_on l b.now.disk

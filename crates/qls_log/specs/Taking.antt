@@ -1,15 +1,18 @@
 -- What taking files does to the site, to the pool and to the serials.
-use Rattle.std.specs.Prelude.{◌≡◌, ◌⊎◌, ℕ, ◌+◌, ◌-◌, ◌^◌, ◌<◌, List, [], ◌∷◌, Option, Ok}
+use Rattle.std.specs.Prelude.{◌≡◌, ◌⊎◌, ℕ, ◌+◌, ◌-◌, ◌^◌, ◌<◌, List, [], ◌∷◌, length, take, Option, Ok, IsTrue}
 use Rattle.std.specs.List.{AllByRecursion}
 use Rattle.qls_model.specs.declared.machine.PoolId.{PoolId}
 use Rattle.qls_site.specs.declared.serials.DrawError.{DrawError}
-use Rattle.qls_site.specs.Content.{Content, Acts, Draws}
+use Rattle.qls_site.specs.Content.{Content, Acts, Draws, Tells}
+use Rattle.qls_filehdr.specs.Limits.{is_legal_header}
+use Rattle.qls_blocks.specs.declared.plan.FreshFile.{FreshFile}
 use Rattle.qls_pool.specs.Pools.{PoolState, HandsOut, IsSpent, least_id}
 use Rattle.qls_pool.specs.Files.{HeadedFile, IsWholePool}
 use Rattle.qls_pool.specs.Taking.{Obtains, Heads, put_in_use}
 use Rattle.qls_site.specs.Disk.{Disk}
 use Rattle.qls_meaning.specs.Dead.{newest_number}
 use Rattle.qls_log.specs.declared.opening.Opening.{Opening}
+use Rattle.qls_log.specs.Logs.{AreHeaded}
 use Rattle.qls_log.specs.Standing.{files_on}
 
 -- the pool isn't spent and hands the file out, its header is written and synced, and it is put into use
@@ -53,3 +56,10 @@ pub record StopsAfter (o : Opening) (newest n : ℕ) (pool : PoolState) (d : Dis
   pub fewer : taken < n
   pub may : MayTake o pool (newest + taken + 1) d
   pub last : (newest + taken ≡ 2 ^ 62 - 1) ⊎ IsSpent o.home pool
+
+-- the first of the planned files were taken, and nothing else was done
+pub record TakesFirst (o : Opening) (newest : ℕ) (fresh : List FreshFile) (pool left : PoolState) (old new : Option Content) : Type 0 where
+  pub files : List HeadedFile
+  pub headers : AreHeaded o newest (take (length files) fresh) files
+  pub legal : AllByRecursion (λ h. IsTrue (is_legal_header h.header)) files
+  pub told : Tells (TakesFiles o.home pool left files) old new

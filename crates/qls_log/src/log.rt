@@ -5,6 +5,8 @@ ghost use Rattle.qls_site.specs.Disk.{IsQuiet};
 ghost use Rattle.qls_pool.specs.Pools.{PoolState, IsSpent};
 ghost use Rattle.qls_pool.specs.Files.{HeadedFile, IsPoolOf, IsWholePool, OnDisk, Carries};
 ghost use Rattle.qls_pool.specs.Discipline.{Orderly};
+ghost use Rattle.qls_log.specs.Leaving.{NoneLeaves};
+ghost use Rattle.qls_pool.specs.Moments.{Passes};
 ghost use Rattle.qls_pool.specs.Serials.{DrawsTaken, TakesNone};
 ghost use Rattle.qls_blocks.specs.Batching.{laid_from, length_of, block_length};
 ghost use Rattle.qls_blocks.specs.Plans.{plan_of};
@@ -13,7 +15,8 @@ ghost use Rattle.qls_log.specs.Faults.{LogCauses, SiteCauses, Counts};
 ghost use Rattle.qls_log.specs.Taking.{TakesFiles, DrawsEach, MeetsEnd};
 ghost use Rattle.qls_log.specs.Spots.{spot_of};
 ghost use Rattle.qls_log.specs.Returning.{GivesAll, released};
-ghost use Rattle.qls_log.specs.Steps.{IsLogStep, GoesBy, MeetsEndWith, is_exact};
+ghost use Rattle.qls_log.specs.Steps.{IsLogStep, GoesBy, MeetsEndWith, KeepsRoom, is_exact};
+ghost use Rattle.qls_log.specs.Unwritten.{BeginsWritten, StaysWritten, WritesWell};
 ghost use Rattle.qls_log.specs.Standing.{LogThere, StandsWith, IsUnmarkedBehind, files_on};
 ghost use Rattle.qls_meaning.specs.Reading.{Read};
 ghost use Rattle.qls_log.specs.Reads.{IsRead, BeginsReading, ReadsOn};
@@ -103,6 +106,8 @@ impl Log {
         ensures went { Tells (GoesBy (IsLogStep (record { kind = kind; name = name; home = home; epoch = 1 })) result) (S.told site.old) (S.told site.new) }
         ensures drew { DrawsTaken (is_exact result) (S.told site.old) (S.told site.new) (N.drawn serials.old) (N.drawn serials.new) }
         ensures quiet { IfOk result (λ _. Carries IsQuiet IsQuiet (S.told site.old) (S.told site.new)) }
+        ensures stays { Tells (Passes NoneLeaves) (S.told site.old) (S.told site.new) }
+        ensures writes { Tells (BeginsWritten result (λ log. log)) (S.told site.old) (S.told site.new) }
         ensures no_call { result ≡ Err LogError.Spent → site.new ≡ site.old }
         ensures spent_pool { result ≡ Err LogError.Spent → pool.new ≡ pool.old }
     {
@@ -170,6 +175,9 @@ impl Log {
         ensures pending { IfOk result (λ _. Carries IsQuiet (IsQuietBut self.new.unsynced) (S.told site.old) (S.told site.new)) }
         ensures whole { IfOk result (λ _. IfSome (S.told site.new) (OnDisk (IsWholePool pool.new))) }
         ensures ends { result ≡ Err LogError.Spent → IfSome (S.told site.new) (OnDisk (MeetsEndWith self.old (block_length (length_of batch.now)))) }
+        ensures room { result ≡ Err LogError.Spent → Tells (KeepsRoom self.old) (S.told site.old) (S.told site.new) }
+        ensures stays { Tells (Passes NoneLeaves) (S.told site.old) (S.told site.new) }
+        ensures writes { Tells (StaysWritten result self.old self.new) (S.told site.old) (S.told site.new) }
     {
         self.ended = true;
         let opening = self.opening;
@@ -218,6 +226,8 @@ impl Log {
         ensures orderly { Orderly (λ _. Unit {0}) result (S.told site.old) (S.told site.new) }
         ensures went { Tells (GoesBy (IsLogStep self.old.opening) result) (S.told site.old) (S.told site.new) }
         ensures none { Tells TakesNone (S.told site.old) (S.told site.new) }
+        ensures stays { Tells (Passes NoneLeaves) (S.told site.old) (S.told site.new) }
+        ensures writes { Tells (StaysWritten result self.old self.new) (S.told site.old) (S.told site.new) }
     {
         self.ended = true;
         sync_parts(site, &self.unsynced)?;
@@ -242,13 +252,16 @@ impl Log {
         requires there { IfSome (S.told site.old) (OnDisk (LogThere self.old)) }
         requires pool { IfSome (S.told site.old) (OnDisk (IsPoolOf pool.old [])) }
         ensures ended { self.new.ended ≡ is_err result }
+        ensures legal { IsSound self.old }
         ensures log { IfOk result (λ _. self.new ≡ record self.old { files = drop (length (released number self.old)) self.old.files }) }
         ensures told { Tells (GivesAll (released number self.old) result) (S.told site.old) (S.told site.new) }
         ensures there { IfOk result (λ _. IfSome (S.told site.new) (OnDisk (LogThere self.new))) }
         ensures pool { IfOk result (λ _. IfSome (S.told site.new) (OnDisk (IsPoolOf pool.new []))) }
+        ensures limit { pool.old.greatest < 2 ^ 62 → pool.new.greatest < 2 ^ 62 }
         ensures others { IfOk result (λ _. Tells (LeavesOthers (released number self.old)) (S.told site.old) (S.told site.new)) }
         ensures went { Tells (GoesBy (IsLogStep self.old.opening) result) (S.told site.old) (S.told site.new) }
         ensures none { Tells TakesNone (S.told site.old) (S.told site.new) }
+        ensures writes { Tells (StaysWritten result self.old self.new) (S.told site.old) (S.told site.new) }
         ensures cause { SiteCauses (S.faults site.old) (S.faults site.new) result }
         ensures syncs { S.syncs site.new ≡ S.syncs site.old }
         ensures reads { S.reads site.new ≡ S.reads site.old }
@@ -274,12 +287,15 @@ impl Log {
         requires one { length self.files ≡ 1 }
         requires there { IfSome (S.told site.old) (OnDisk (LogThere self)) }
         requires pool { IfSome (S.told site.old) (OnDisk (IsPoolOf pool.old [])) }
+        ensures legal { IsSound self }
         ensures told { Tells (GivesAll self.files result) (S.told site.old) (S.told site.new) }
         ensures gone { IfOk result (λ _. IfSome (S.told site.new) (OnDisk (λ d. files_on self.opening d ≡ []))) }
         ensures pool { IfOk result (λ _. IfSome (S.told site.new) (OnDisk (IsWholePool pool.new))) }
+        ensures limit { pool.old.greatest < 2 ^ 62 → pool.new.greatest < 2 ^ 62 }
         ensures others { IfOk result (λ _. Tells (LeavesOthers self.files) (S.told site.old) (S.told site.new)) }
         ensures went { Tells (GoesBy (IsLogStep self.opening) result) (S.told site.old) (S.told site.new) }
         ensures none { Tells TakesNone (S.told site.old) (S.told site.new) }
+        ensures writes { Tells WritesWell (S.told site.old) (S.told site.new) }
         ensures cause { SiteCauses (S.faults site.old) (S.faults site.new) result }
         ensures syncs { S.syncs site.new ≡ S.syncs site.old }
         ensures reads { S.reads site.new ≡ S.reads site.old }
@@ -287,6 +303,13 @@ impl Log {
         let Log { files, .. } = self;
         give_back_each(site, pool, files)?;
         Ok(())
+    }
+
+    /// The journal's name.
+    pub fn name(&self) -> &Name
+        ensures exact { result.now ≡ self.now.opening.name }
+    {
+        &self.opening.name
     }
 
     /// The record id in force behind the last batch: that of the last enqueue, 0 where there is none.

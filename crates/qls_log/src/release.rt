@@ -47,6 +47,7 @@ pub(crate) fn give_back_each<S: Site>(
     requires may { (o : Opening) × (kept : List HeadedFile) × IfSome (S.told site.old) (OnDisk (MayReturn o pool.old (files.items ++ kept))) }
     ensures told { Tells (GivesBack files.items result) (S.told site.old) (S.told site.new) }
     ensures back { EndsBack pool.old pool.new files.items result (S.told site.old) (S.told site.new) }
+    ensures greatest { pool.new.greatest ≡ pool.old.greatest }
     ensures cause { Causes (S.faults site.old) (S.faults site.new) result }
     ensures syncs { S.syncs site.new ≡ S.syncs site.old }
     ensures reads { S.reads site.new ≡ S.reads site.old }

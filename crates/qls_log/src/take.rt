@@ -8,8 +8,9 @@ ghost use Rattle.qls_pool.specs.Files.{IsPoolOf, IsWholePool, OnDisk, Carries};
 ghost use Rattle.qls_pool.specs.Discipline.{Orderly};
 ghost use Rattle.qls_pool.specs.Serials.{DrawsTaken};
 ghost use Rattle.qls_log.specs.Logs.{IsLegalOpening, FitsFile, header_for, AreHeaded};
-ghost use Rattle.qls_log.specs.Taking.{TakesFile, TakesFiles, DrawsOne, DrawsEach, MeetsEnd, MayTake, StopsAfter};
+ghost use Rattle.qls_log.specs.Taking.{TakesFile, TakesFiles, DrawsOne, DrawsEach, MeetsEnd, MayTake, StopsAfter, TakesFirst};
 ghost use Rattle.qls_log.specs.Steps.{IsLogStep, GoesBy, is_exact};
+ghost use Rattle.qls_log.specs.Keeping.{IsTakeStep};
 ghost use Rattle.qls_log.specs.Faults.{LogCauses, Counts};
 
 use crate::fault::LogError;
@@ -53,6 +54,7 @@ fn take_file<S: Site, N: Serials>(
     ensures orderly { Orderly (IsPoolOf pool.old []) result (S.told site.old) (S.told site.new) }
     ensures next { IfOk result (λ _. IfSome (S.told site.new) (OnDisk (MayTake opening.now pool.new (number + 1)))) }
     ensures went { Tells (GoesBy (IsLogStep opening.now) result) (S.told site.old) (S.told site.new) }
+    ensures kept { Tells (GoesBy (IsTakeStep opening.now) result) (S.told site.old) (S.told site.new) }
     ensures drew { DrawsTaken (is_exact result) (S.told site.old) (S.told site.new) (N.drawn serials.old) (N.drawn serials.new) }
 {
     let blank = pool.blank(site, serials, opening.home)?;
@@ -100,9 +102,11 @@ pub(crate) fn take_files<S: Site, N: Serials>(
     ensures reads { S.reads site.new ≡ S.reads site.old }
     ensures orderly { Orderly (IsPoolOf pool.old []) result (S.told site.old) (S.told site.new) }
     ensures went { Tells (GoesBy (IsLogStep opening.now) result) (S.told site.old) (S.told site.new) }
+    ensures kept { Tells (GoesBy (IsTakeStep opening.now) result) (S.told site.old) (S.told site.new) }
     ensures drew { DrawsTaken (is_exact result) (S.told site.old) (S.told site.new) (N.drawn serials.old) (N.drawn serials.new) }
     ensures next { IfOk result (λ files. IfSome (S.told site.new) (OnDisk (MayTake opening.now pool.new (newest + length files.items + 1)))) }
     ensures ends { result ≡ Err LogError.Spent → IfSome (S.told site.new) (OnDisk (StopsAfter opening.now newest (length fresh.now) pool.new)) }
+    ensures some { result ≡ Err LogError.Spent → TakesFirst opening.now newest fresh.now pool.old pool.new (S.told site.old) (S.told site.new) }
     ensures at_once { result ≡ Err LogError.Spent → length fresh.now ≤ 1 → (site.new ≡ site.old) × (pool.new ≡ pool.old) }
 {
     let mut files = Vec::with_capacity(alloc, fresh.len())?;

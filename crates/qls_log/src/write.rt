@@ -145,6 +145,7 @@ pub(crate) fn write_batch<S: Site>(
     ensures reads { S.reads site.new ≡ S.reads site.old }
     ensures orderly { Orderly (AreInUse (ids files.now)) result (S.told site.old) (S.told site.new) }
     ensures own { (o : Opening) → IfSome (S.told site.old) (OnDisk (AreOwn o (ids files.now))) → Tells (GoesOwn o result) (S.told site.old) (S.told site.new) }
+    ensures parts { Tells (WritesParts capacity (ids (from_written capacity used files.now)) (if used == capacity then 0 else used) (spelled_over capacity (serials files.now) used (with_fillers batch.now)) result) (S.told site.old) (S.told site.new) }
 {
     let list = serials_of(alloc, files)?;
     let bytes = batch.spell(plan, used, capacity, &list)?;

@@ -11,6 +11,7 @@ invariant-loop-file g l = record {
   len : into_iter_len l.file-iterator ≡ length (into_iter_items l.file-iterator);
   told : Tells (λ x y. y ≡ with_backs l.yielded x) (g.S.Site.told l.fn.site) (g.S.Site.told l.site);
   back : BackSo l.fn.pool l.pool l.yielded (into_iter_items l.file-iterator) (g.S.Site.told l.fn.site) (g.S.Site.told l.site);
+  greatest : l.pool.greatest ≡ l.fn.pool.greatest;
   faults : g.S.Site.faults l.fn.site ≤ g.S.Site.faults l.site;
   syncs : g.S.Site.syncs l.site ≡ g.S.Site.syncs l.fn.site;
   reads : g.S.Site.reads l.site ≡ g.S.Site.reads l.fn.site;

@@ -8,6 +8,8 @@ use Rattle.qls_log.proofs.Steps.{failed, ok_again, two_orderly, three_orderly, t
 use Rattle.qls_log.proofs.Takes.{told_whole, told_pool}
 use Rattle.qls_log.proofs.Making.{IsOwnHeader, own_header, may_at, told_blank_failed, told_blank_goes, site_goes, told_head_failed, told_link_failed, told_file, told_next, blank_drawn, site_inexact, file_drawn, brought_arrives}
 use Rattle.qls_log.specs.Steps.{IsLogStep, GoesBy, is_exact}
+use Rattle.qls_log.specs.Keeping.{IsTakeStep}
+use Rattle.qls_log.proofs.Going.{told_weaker}
 use Rattle.qls_log.specs.Faults.{fault_of_site, fault_of_take}
 use Rattle.qls_log.specs.Logs.{header_for}
 use Rattle.qls_log.specs.declared.opening.Opening.{Opening}
@@ -68,21 +70,21 @@ pub returns-clause-whole : goal.returns-clause-whole
 returns-clause-whole g c =
     told_whole c.args.opening.now.home c.args.pool.now c.blank.new.self c.in_ok-linked.linked _ _ (returns-clause-told g c) (returns-clause-legal g c) (ap (λ (h : HeadedFile). h.header.part) (c.in_ok-linked.ensures.linked ∙ c.in_ok-headed.ensures.headed) ∙ ap (λ (h : FileHeader). h.part) c.header-header.ensures.exact) (ap (λ (h : HeadedFile). h.header.kib) (c.in_ok-linked.ensures.linked ∙ c.in_ok-headed.ensures.headed) ∙ ap (λ (h : FileHeader). h.kib) c.header-header.ensures.exact)
 
-pub returns-in_err-blank-clause-went : goal.returns-in_err-blank-clause-went
-returns-in_err-blank-clause-went g c =
+pub returns-in_err-blank-clause-kept : goal.returns-in_err-blank-clause-kept
+returns-in_err-blank-clause-kept g c =
     let is : Err (fault_of_take c.in_err-blank.field-0.0) ≡ c.from_residual.result = search (rules, c.from_residual.ensures) in
-    subst (λ (r : Result Linked LogError). Tells (GoesBy (IsLogStep c.args.opening.now) r) (g.S.Site.told c.args.site.now) (g.S.Site.told c.blank.new.site)) is
+    subst (λ (r : Result Linked LogError). Tells (GoesBy (IsTakeStep c.args.opening.now) r) (g.S.Site.told c.args.site.now) (g.S.Site.told c.blank.new.site)) is
     (told_blank_goes c.args.opening.now c.args.pool.now c.args.number Linked c.in_err-blank.field-0.0 _ _ c.requires.start c.in_err-blank.ensures.told)
 
 pub returns-in_err-blank-clause-drew : goal.returns-in_err-blank-clause-drew
 returns-in_err-blank-clause-drew g c =
     let is : Err (fault_of_take c.in_err-blank.field-0.0) ≡ c.from_residual.result = search (rules, c.from_residual.ensures) in
     subst (λ (r : Result Linked LogError). DrawsTaken (is_exact r) (g.S.Site.told c.args.site.now) (g.S.Site.told c.blank.new.site) (g.N.Serials.drawn c.args.serials.now) (g.N.Serials.drawn c.blank.new.serials)) is
-    (blank_drawn (IsLogStep c.args.opening.now) Linked c.in_err-blank.field-0.0 _ _ _ _
+    (blank_drawn (IsTakeStep c.args.opening.now) Linked c.in_err-blank.field-0.0 _ _ _ _
     (told_blank_failed c.args.opening.now c.args.pool.now c.args.number c.in_err-blank.field-0.0 _ _ c.requires.start c.in_err-blank.ensures.told) c.in_err-blank.ensures.drawn)
 
-pub returns-in_err-headed-clause-went : goal.returns-in_err-headed-clause-went
-returns-in_err-headed-clause-went g c =
+pub returns-in_err-headed-clause-kept : goal.returns-in_err-headed-clause-kept
+returns-in_err-headed-clause-kept g c =
     let o : Opening = c.args.opening.now in
     let b : BlankFile = c.in_ok-blank.blank in
     let h : FileHeader = c.header-header.result in
@@ -91,8 +93,8 @@ returns-in_err-headed-clause-went g c =
     let may = may_at o c.args.pool.now h.number c.args.number _ (ap (λ (x : FileHeader). x.number) c.header-header.ensures.exact) c.requires.start in
     let failed = told_head_failed o b h own c.args.pool.now c.blank.new.self at c.in_ok-blank.ensures.handed c.in_err-headed.field-0.0 _ (g.S.Site.told c.blank.new.site) _ may c.in_ok-blank.ensures.told c.in_err-headed.ensures.told in
     let is : Err (fault_of_site c.in_err-headed.field-0.0) ≡ c.from_residual-in_err-headed.result = search (rules, c.from_residual-in_err-headed.ensures) in
-    subst (λ (r : Result Linked LogError). Tells (GoesBy (IsLogStep o) r) (g.S.Site.told c.args.site.now) (g.S.Site.told c.head.new.site)) is
-    (site_goes (IsLogStep o) Linked c.in_err-headed.field-0.0 _ _ (told_at_most (IsLogStep o) b.serial _ _ failed))
+    subst (λ (r : Result Linked LogError). Tells (GoesBy (IsTakeStep o) r) (g.S.Site.told c.args.site.now) (g.S.Site.told c.head.new.site)) is
+    (site_goes (IsTakeStep o) Linked c.in_err-headed.field-0.0 _ _ (told_at_most (IsTakeStep o) b.serial _ _ failed))
 
 pub returns-in_err-headed-clause-drew : goal.returns-in_err-headed-clause-drew
 returns-in_err-headed-clause-drew g c =
@@ -106,10 +108,10 @@ returns-in_err-headed-clause-drew g c =
     let is : Err (fault_of_site c.in_err-headed.field-0.0) ≡ c.from_residual-in_err-headed.result = search (rules, c.from_residual-in_err-headed.ensures) in
     let inexact = ap is_exact (sym is) ∙ site_inexact Linked c.in_err-headed.field-0.0 in
     subst (λ e. DrawsTaken e (g.S.Site.told c.args.site.now) (g.S.Site.told c.head.new.site) (g.N.Serials.drawn c.args.serials.now) (g.N.Serials.drawn c.blank.new.serials)) (sym inexact)
-    (drawn_at_most (IsLogStep o) _ b.serial _ _ _ _ failed c.in_ok-blank.ensures.drawn)
+    (drawn_at_most (IsTakeStep o) _ b.serial _ _ _ _ failed c.in_ok-blank.ensures.drawn)
 
-pub returns-in_err-linked-clause-went : goal.returns-in_err-linked-clause-went
-returns-in_err-linked-clause-went g c =
+pub returns-in_err-linked-clause-kept : goal.returns-in_err-linked-clause-kept
+returns-in_err-linked-clause-kept g c =
     let o : Opening = c.args.opening.now in
     let b : BlankFile = c.in_ok-blank.blank in
     let h : FileHeader = c.header-header.result in
@@ -120,8 +122,8 @@ returns-in_err-linked-clause-went g c =
     let failed = told_link_failed o b h own c.args.pool.now c.blank.new.self at c.in_ok-blank.ensures.handed c.in_err-linked.field-0.0 _ (g.S.Site.told c.blank.new.site) (g.S.Site.told c.head.new.site) _ may c.in_ok-blank.ensures.told c.in_ok-headed.ensures.told
     (subst (λ (x : HeadedFile). Tells (Leads {X = Unit {0}} (Acts (put_in_use x.id)) (MayAct (put_in_use x.id)) (Err c.in_err-linked.field-0.0)) (g.S.Site.told c.head.new.site) (g.S.Site.told c.link.new.site)) same c.in_err-linked.ensures.told) in
     let is : Err (fault_of_site c.in_err-linked.field-0.0) ≡ c.from_residual-in_err-linked.result = search (rules, c.from_residual-in_err-linked.ensures) in
-    subst (λ (r : Result Linked LogError). Tells (GoesBy (IsLogStep o) r) (g.S.Site.told c.args.site.now) (g.S.Site.told c.link.new.site)) is
-    (site_goes (IsLogStep o) Linked c.in_err-linked.field-0.0 _ _ (told_at_most (IsLogStep o) b.serial _ _ failed))
+    subst (λ (r : Result Linked LogError). Tells (GoesBy (IsTakeStep o) r) (g.S.Site.told c.args.site.now) (g.S.Site.told c.link.new.site)) is
+    (site_goes (IsTakeStep o) Linked c.in_err-linked.field-0.0 _ _ (told_at_most (IsTakeStep o) b.serial _ _ failed))
 
 pub returns-in_err-linked-clause-drew : goal.returns-in_err-linked-clause-drew
 returns-in_err-linked-clause-drew g c =
@@ -137,10 +139,10 @@ returns-in_err-linked-clause-drew g c =
     let is : Err (fault_of_site c.in_err-linked.field-0.0) ≡ c.from_residual-in_err-linked.result = search (rules, c.from_residual-in_err-linked.ensures) in
     let inexact = ap is_exact (sym is) ∙ site_inexact Linked c.in_err-linked.field-0.0 in
     subst (λ e. DrawsTaken e (g.S.Site.told c.args.site.now) (g.S.Site.told c.link.new.site) (g.N.Serials.drawn c.args.serials.now) (g.N.Serials.drawn c.blank.new.serials)) (sym inexact)
-    (drawn_at_most (IsLogStep o) _ b.serial _ _ _ _ failed c.in_ok-blank.ensures.drawn)
+    (drawn_at_most (IsTakeStep o) _ b.serial _ _ _ _ failed c.in_ok-blank.ensures.drawn)
 
-pub returns-clause-went : goal.returns-clause-went
-returns-clause-went g c =
+pub returns-clause-kept : goal.returns-clause-kept
+returns-clause-kept g c =
     let o : Opening = c.args.opening.now in
     let b : BlankFile = c.in_ok-blank.blank in
     let h : FileHeader = c.header-header.result in
@@ -150,7 +152,7 @@ returns-clause-went g c =
     let same : c.in_ok-headed.headed ≡ record { id = b.id; header = h } = c.in_ok-headed.ensures.headed in
     let done = told_file o b h own c.args.pool.now c.blank.new.self at c.in_ok-blank.ensures.handed _ (g.S.Site.told c.blank.new.site) (g.S.Site.told c.head.new.site) (g.S.Site.told c.link.new.site) may c.in_ok-blank.ensures.told c.in_ok-headed.ensures.told
     (subst (λ (x : HeadedFile). Tells (Acts (put_in_use x.id)) (g.S.Site.told c.head.new.site) (g.S.Site.told c.link.new.site)) same c.in_ok-linked.ensures.told) in
-    brought_arrives (IsLogStep o) (b.serial ∷ []) _ _ done
+    brought_arrives (IsTakeStep o) (b.serial ∷ []) _ _ done
 
 pub returns-clause-drew : goal.returns-clause-drew
 returns-clause-drew g c =
@@ -163,7 +165,7 @@ returns-clause-drew g c =
     let same : c.in_ok-headed.headed ≡ record { id = b.id; header = h } = c.in_ok-headed.ensures.headed in
     let done = told_file o b h own c.args.pool.now c.blank.new.self at c.in_ok-blank.ensures.handed _ (g.S.Site.told c.blank.new.site) (g.S.Site.told c.head.new.site) (g.S.Site.told c.link.new.site) may c.in_ok-blank.ensures.told c.in_ok-headed.ensures.told
     (subst (λ (x : HeadedFile). Tells (Acts (put_in_use x.id)) (g.S.Site.told c.head.new.site) (g.S.Site.told c.link.new.site)) same c.in_ok-linked.ensures.told) in
-    file_drawn (IsLogStep o) b.serial _ _ _ _ done c.in_ok-blank.ensures.drawn
+    file_drawn (IsTakeStep o) b.serial _ _ _ _ done c.in_ok-blank.ensures.drawn
 
 pub returns-clause-next : goal.returns-clause-next
 returns-clause-next g c =
@@ -171,3 +173,15 @@ returns-clause-next g c =
     let is : c.in_ok-linked.linked.header ≡ header_for o c.serial.result c.args.number c.args.fresh = ap (λ (x : HeadedFile). x.header) (c.in_ok-linked.ensures.linked ∙ c.in_ok-headed.ensures.headed) ∙ c.header-header.ensures.exact in
     told_next o c.args.pool.now c.blank.new.self c.in_ok-linked.linked (returns-clause-legal g c) (ap (λ (x : FileHeader). x.part) is) (ap (λ (x : FileHeader). x.kib) is) (ap (λ (x : FileHeader). x.kind) is)
     (ap (λ (x : FileHeader). x.name) is) c.args.number (ap (λ (x : FileHeader). x.number) is) _ _ (returns-clause-told g c) c.requires.start
+
+pub returns-in_err-blank-clause-went : goal.returns-in_err-blank-clause-went
+returns-in_err-blank-clause-went g c = told_weaker (IsTakeStep c.args.opening.now) (IsLogStep c.args.opening.now) (λ m n h. h.step) c.from_residual.result _ _ (returns-in_err-blank-clause-kept g c)
+
+pub returns-in_err-headed-clause-went : goal.returns-in_err-headed-clause-went
+returns-in_err-headed-clause-went g c = told_weaker (IsTakeStep c.args.opening.now) (IsLogStep c.args.opening.now) (λ m n h. h.step) c.from_residual-in_err-headed.result _ _ (returns-in_err-headed-clause-kept g c)
+
+pub returns-in_err-linked-clause-went : goal.returns-in_err-linked-clause-went
+returns-in_err-linked-clause-went g c = told_weaker (IsTakeStep c.args.opening.now) (IsLogStep c.args.opening.now) (λ m n h. h.step) c.from_residual-in_err-linked.result _ _ (returns-in_err-linked-clause-kept g c)
+
+pub returns-clause-went : goal.returns-clause-went
+returns-clause-went g c = told_weaker (IsTakeStep c.args.opening.now) (IsLogStep c.args.opening.now) (λ m n h. h.step) (Ok c.in_ok-linked.linked) _ _ (returns-clause-kept g c)

@@ -7,16 +7,17 @@ use Rattle.qls_pool.specs.Files.{HeadedFile, IsPoolOf, IsWholePool, OnDisk}
 use Rattle.qls_log.specs.declared.fault.LogError.{LogError}
 use Rattle.qls_log.specs.declared.fault.LogError.TheVariants.{Memory}
 use Rattle.qls_log.specs.Logs.{AreHeaded, FitsFile}
-use Rattle.qls_log.specs.Taking.{TakesFiles, DrawsEach, StopsAfter}
+use Rattle.qls_log.specs.Taking.{TakesFiles, TakesFirst, DrawsEach, StopsAfter}
 use Rattle.qls_pool.specs.declared.file.Linked.{Linked}
 use Rattle.qls_pool.proofs.Moments.{told_arrives}
 use Rattle.qls_log.specs.Steps.{IsLogStep, is_exact}
+use Rattle.qls_log.specs.Keeping.{IsTakeStep}
 use Rattle.qls_log.proofs.Going.{draws_on, draws_handed, told_handed, told_on, told_arrived, told_stops}
 use Rattle.qls_pool.proofs.Serials.{drawn_any}
 use Rattle.qls_pool.specs.Pools.{PoolState, IsSpent}
 use Rattle.qls_log.specs.declared.opening.Opening.{Opening}
 use Rattle.qls_log.proofs.Steps.{failed, ok_again}
-use Rattle.qls_log.proofs.Chains.{take_next, all_get, told_push, draws_push, headed_push, all_push, counts_push, orderly_chain, orderly_stays, whole_then}
+use Rattle.qls_log.proofs.Chains.{take_next, all_get, told_push, draws_push, headed_push, all_push, counts_push, orderly_chain, orderly_stays, whole_then, takes_first}
 use Rattle.qls_log.proofs.take.take_files.Goals as goal
 
 pub returns-in_err-file-clause-orderly : goal.returns-in_err-file-clause-orderly
@@ -62,6 +63,7 @@ loop-at-preserved g c =
           c.loop-at.invariant.told c.loop-at.invariant.syncs c.in_ok-file.ensures.syncs;
       reads = search rules;
       went = told_arrives (IsLogStep c.args.opening.now) _ _ _ c.loop-at.invariant.went c.in_ok-file.ensures.went;
+      kept = told_arrives (IsTakeStep c.args.opening.now) _ _ _ c.loop-at.invariant.kept c.in_ok-file.ensures.kept;
       drew = draws_on (IsLogStep c.args.opening.now) {X = Linked} (Ok c.in_ok-file.file) _ _ _ _ _ _ c.loop-at.invariant.went c.in_ok-file.ensures.went c.loop-at.invariant.drew c.in_ok-file.ensures.drew;
       next = c.in_ok-file.ensures.next;
       same = λ e. absurd (omega (arith, e));
@@ -95,6 +97,15 @@ returns-in_err-file-clause-ends g c = λ e.
     (subst (λ x. IfSome (g.S.Site.told x) (OnDisk (StopsAfter o c.args.newest (length c.args.fresh.now) c.loop-at.pool))) (sym site)
     (told_stops o c.args.newest c.loop-at.number c.loop-at.at (length c.args.fresh.now) c.loop-at.pool _ c.loop-at.invariant.number c.loop-at-test.true c.loop-at.invariant.next (inr spent)))
 
+pub returns-in_err-file-clause-some : goal.returns-in_err-file-clause-some
+returns-in_err-file-clause-some g c = λ e.
+    let o : Opening = c.args.opening.now in
+    let site : c.take_file.new.site ≡ c.loop-at.site = c.in_err-file.ensures.spent_site (search rules) in
+    let pool : c.take_file.new.pool ≡ c.loop-at.pool = c.in_err-file.ensures.spent_pool (search rules) in
+    subst (λ (p : PoolState). TakesFirst o c.args.newest c.args.fresh.now c.args.pool.now p (g.S.Site.told c.args.site.now) (g.S.Site.told c.take_file.new.site)) (sym pool)
+    (subst (λ x. TakesFirst o c.args.newest c.args.fresh.now c.args.pool.now c.loop-at.pool (g.S.Site.told c.args.site.now) (g.S.Site.told x)) (sym site)
+    (takes_first o c.args.newest c.args.fresh.now c.loop-at.at c.args.pool.now c.loop-at.pool c.loop-at.files.items _ _ c.loop-at.invariant.count c.loop-at.invariant.headers c.loop-at.invariant.legal c.loop-at.invariant.told))
+
 pub returns-in_err-push-clause-went : goal.returns-in_err-push-clause-went
 returns-in_err-push-clause-went g c =
     told_arrived (IsLogStep c.args.opening.now) c.from_residual-in_err-push.result _ _ (told_arrives (IsLogStep c.args.opening.now) _ _ _ c.loop-at.invariant.went c.in_ok-file.ensures.went)
@@ -103,3 +114,13 @@ pub returns-in_err-push-clause-drew : goal.returns-in_err-push-clause-drew
 returns-in_err-push-clause-drew g c =
     drawn_any (is_exact c.from_residual-in_err-push.result) _ _ _ _
     (draws_on (IsLogStep c.args.opening.now) {X = Linked} (Ok c.in_ok-file.file) _ _ _ _ _ _ c.loop-at.invariant.went c.in_ok-file.ensures.went c.loop-at.invariant.drew c.in_ok-file.ensures.drew)
+
+pub returns-in_err-file-clause-kept : goal.returns-in_err-file-clause-kept
+returns-in_err-file-clause-kept g c =
+    let is : Err c.in_err-file.field-0.0 ≡ c.from_residual-in_err-file.result = search (rules, c.from_residual-in_err-file.ensures) in
+    told_handed (IsTakeStep c.args.opening.now) Linked c.in_err-file.field-0.0 c.from_residual-in_err-file.result _ _ is
+    (told_on (IsTakeStep c.args.opening.now) {X = Linked} (Err c.in_err-file.field-0.0) _ _ _ c.loop-at.invariant.kept c.in_err-file.ensures.kept)
+
+pub returns-in_err-push-clause-kept : goal.returns-in_err-push-clause-kept
+returns-in_err-push-clause-kept g c =
+    told_arrived (IsTakeStep c.args.opening.now) c.from_residual-in_err-push.result _ _ (told_arrives (IsTakeStep c.args.opening.now) _ _ _ c.loop-at.invariant.kept c.in_ok-file.ensures.kept)

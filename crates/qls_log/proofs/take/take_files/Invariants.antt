@@ -11,6 +11,7 @@ use Rattle.qls_log.specs.Taking.{TakesFiles, DrawsEach, MayTake}
 use Rattle.qls_pool.specs.Moments.{Arrives}
 use Rattle.qls_pool.specs.Serials.{DrawsTaken}
 use Rattle.qls_log.specs.Steps.{IsLogStep}
+use Rattle.qls_log.specs.Keeping.{IsTakeStep}
 use Rattle.qls_log.specs.Faults.{Counts}
 use Rattle.qls_log.proofs.take.take_files.Given as goal
 
@@ -34,6 +35,7 @@ invariant-loop-at g l = record {
   syncs : Counts {E = LogError} (g.S.Site.told l.fn.site) (Ok (tt {0})) l.at (g.S.Site.syncs l.fn.site) (g.S.Site.syncs l.site);
   reads : g.S.Site.reads l.site ≡ g.S.Site.reads l.fn.site;
   went : Tells (Arrives (IsLogStep l.opening)) (g.S.Site.told l.fn.site) (g.S.Site.told l.site);
+  kept : Tells (Arrives (IsTakeStep l.opening)) (g.S.Site.told l.fn.site) (g.S.Site.told l.site);
   drew : DrawsTaken true (g.S.Site.told l.fn.site) (g.S.Site.told l.site) (g.N.Serials.drawn l.fn.serials) (g.N.Serials.drawn l.serials);
   next : IfSome (g.S.Site.told l.site) (OnDisk (MayTake l.opening l.pool (l.number + 1)));
   same : l.at ≡ 0 → l.site ≡ l.fn.site;

@@ -1,5 +1,7 @@
 use Rattle.std.proofs.Common.{◌≡◌, ◌+◌, ◌-◌, length, drop, take, get_or, rules}
-use Rattle.qls_log.proofs.Writes.{told_next, part_sectors, part_size, part_is, room_next, failed_in_order, in_order_next, range_there, some_left, each_next, each_next_done}
+use Rattle.qls_site.specs.Disk.{write_at}
+use Rattle.qls_site.specs.Content.{on_disk}
+use Rattle.qls_log.proofs.Writes.{told_next, told_adds, told_stops, told_err_parts, part_sectors, part_size, part_is, room_next, failed_in_order, in_order_next, range_there, some_left, each_next, each_next_done}
 use Rattle.qls_log.proofs.OwnWrites.{kept_next, failed_own}
 use Rattle.qls_log.proofs.write.write_parts.Goals as goal
 
@@ -23,6 +25,7 @@ loop-id-preserved g c =
       told =
           told_next c.args.capacity c.loop-id.at c.loop-id.id-index c.loop-id.done c.part_length-more.result c.args.ids.now c.args.bytes.now part c.args.from _ _ _
           c.loop-id-test.true c.part_length-more.ensures.exact (part_is c.loop-id.done c.part_length-more.result c.args.bytes.now) c.loop-id.invariant.told c.in_ok-write_part.ensures.told;
+      added = told_adds (on_disk (write_at (get_or c.args.ids.now c.loop-id.id-index 0) (4096 + c.loop-id.at) part)) _ _ _ c.loop-id.invariant.added c.in_ok-write_part.ensures.told;
       there =
           room_next c.args.capacity (get_or c.args.ids.now c.loop-id.id-index 0) c.loop-id.at (length c.args.bytes.now - c.loop-id.done) c.part_length-more.result part c.args.ids.now _ _ size
           c.part_length-more.ensures.exact c.loop-id.invariant.at.1 c.in_ok-write_part.ensures.told c.loop-id.invariant.there;
@@ -47,3 +50,10 @@ returns-in_err-write_part-clause-own g c =
     failed_own c.loop-id.id-index c.loop-id.at c.args.ids.now part c.in_err-write_part.field-0.0 c.from_residual.result _ _ _ c.loop-id-test.true c.from_residual.ensures.0 c.loop-id.invariant.own
     (range_there c.args.capacity c.loop-id.id-index c.loop-id.at (length c.args.bytes.now - c.loop-id.done) c.part_length-more.result c.args.ids.now part _ c.loop-id-test.true size c.part_length-more.ensures.exact c.loop-id.invariant.at.1 c.loop-id.invariant.there)
     c.in_err-write_part.ensures.told
+
+pub returns-in_err-write_part-clause-told : goal.returns-in_err-write_part-clause-told
+returns-in_err-write_part-clause-told g c =
+    let part = take (c.loop-id.done + c.part_length-more.result - c.loop-id.done) (drop c.loop-id.done c.args.bytes.now) in
+    told_err_parts c.args.capacity c.args.ids.now c.args.from c.args.bytes.now c.from_residual.result _ _ c.from_residual.ensures.0
+    (told_stops c.args.capacity c.loop-id.at c.loop-id.id-index c.loop-id.done c.part_length-more.result c.args.ids.now c.args.bytes.now part c.args.from c.loop-id-test.true c.part_length-more.ensures.exact (part_is c.loop-id.done c.part_length-more.result c.args.bytes.now)
+    c.in_err-write_part.field-0.0 _ _ _ c.loop-id.invariant.told c.loop-id.invariant.added c.in_err-write_part.ensures.told)

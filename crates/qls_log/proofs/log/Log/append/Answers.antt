@@ -22,14 +22,20 @@ use Rattle.qls_blocks.specs.Spelled.{spelled_over}
 use Rattle.qls_pool.specs.Moments.{Arrives}
 use Rattle.qls_pool.proofs.Moments.{told_arrives}
 use Rattle.qls_pool.proofs.Serials.{drawn_any, drawn_none}
-use Rattle.qls_log.specs.Steps.{IsLogStep, GoesBy, AreOwn, MeetsEndWith, is_exact}
+use Rattle.qls_log.specs.Steps.{IsLogStep, GoesBy, AreOwn, MeetsEndWith, KeepsRoom, is_exact}
 use Rattle.qls_log.proofs.OwnWrites.{goes_of, none_of}
 use Rattle.qls_log.proofs.AppendSteps.{told_newest, told_meets, told_whole_after}
+use Rattle.qls_log.proofs.Room.{told_keeps_room}
 use Rattle.qls_log.proofs.Quiets.{told_pending}
 use Rattle.qls_log.proofs.Going.{told_may, told_on, told_handed, draws_on, draws_handed, draws_nothing}
 use Rattle.qls_log.proofs.Quiets.{AreAmong}
 use Rattle.qls_log.specs.Soundness.{StaysUndamaged}
 use Rattle.qls_log.proofs.Sound.{told_stays}
+use Rattle.qls_log.specs.Keeping.{IsTakeStep}
+use Rattle.qls_log.specs.Unwritten.{StaysWritten}
+use Rattle.qls_pool.proofs.Moments.{told_of}
+use Rattle.qls_log.proofs.BackSteps.{told_none_leaves_same, told_well_same, told_failed_written}
+use Rattle.qls_log.proofs.AppendSectors.{last_place, told_append_ok, told_append_err, told_append_stays, told_batch_parts, told_took, told_took_stays, told_took_well}
 use Rattle.qls_log.proofs.log.Log.append.Goals as goal
 
 pub take_files-requires-clause-fits : goal.take_files-requires-clause-fits
@@ -251,6 +257,18 @@ returns-in_err-taken-clause-ends g c = λ e.
     subst (λ (x : LogState). IfSome (g.S.Site.told c.take_files.new.site) (OnDisk (MeetsEndWith x (block_length (length_of c.args.batch.now))))) c.self.view_is
     (told_meets l c.take_files.new.pool (length c.as_slice-fresh.result.now) (block_length (length_of c.args.batch.now)) _ (sound_capacity l.opening sound.opening).0 sound.used.1 count (c.in_err-taken.ensures.ends (search rules)))
 
+pub returns-in_err-taken-clause-room : goal.returns-in_err-taken-clause-room
+returns-in_err-taken-clause-room g c = λ e.
+    let l : LogState = record { opening = c.self.inside.opening; files = c.self.inside.files.items; newest = c.self.inside.newest; used = c.self.inside.used; rid = c.self.inside.rid; unsynced = c.self.inside.unsynced; ended = c.self.inside.ended } in
+    let sound : IsSound l = c.self.invariant (ap (λ (x : LogState). x.ended) c.self.view_is ∙ c.requires.unended) in
+    let cap : c.capacity-capacity.result ≡ capacity_in l.opening = c.capacity-capacity.ensures.exact in
+    let flushed : l.unsynced ≡ [] = ap (λ (x : LogState). x.unsynced) c.self.view_is ∙ c.requires.flushed in
+    let there : IfSome (g.S.Site.told c.args.site.now) (OnDisk (LogThere l)) = subst (λ (x : LogState). IfSome (g.S.Site.told c.args.site.now) (OnDisk (LogThere x))) (sym c.self.view_is) c.requires.there in
+    let planned : c.as_slice-fresh.result.now ≡ (plan_of c.args.batch.now l.used (capacity_in l.opening) l.rid).fresh =
+    c.as_slice-fresh.ensures.same ∙ ap (λ (p : Plan). p.fresh) (c.in_ok-plan.ensures.exact ∙ ap (λ n. plan_of c.args.batch.now l.used n l.rid) cap) in
+    subst (λ (x : LogState). Tells (KeepsRoom x) (g.S.Site.told c.args.site.now) (g.S.Site.told c.take_files.new.site)) c.self.view_is
+    (told_keeps_room l c.args.pool.now c.take_files.new.pool c.as_slice-fresh.result.now c.args.batch.now sound flushed planned _ _ (c.in_err-taken.ensures.some (search rules)) there c.requires.pool)
+
 pub returns-in_err-append-clause-drew : goal.returns-in_err-append-clause-drew
 returns-in_err-append-clause-drew g c =
     drawn_any (is_exact c.from_residual-in_err-append.result) _ _ _ _ c.in_ok-taken.ensures.drew
@@ -369,3 +387,93 @@ returns-clause-sound g c =
     (told_stays l sound flushed c.args.pool.now c.take_files.new.pool taken c.as_slice-fresh.result.now c.in_ok-taken.ensures.headers c.in_ok-taken.ensures.legal c.args.batch.now
     (filled_legal l.rid c.args.batch.now rids c.in_ok-spots.ensures.legal) some number new refl files used (ap (λ n. l.newest + n) (sym count)) again planned c.requires.some rids
     (c.last_rid-self-inside.ensures.exact ∙ rid_of_some 0 l.rid c.args.batch.now c.requires.some) _ _ _ c.in_ok-taken.ensures.told writes there c.requires.pool)
+
+pub returns-in_err-plan-clause-stays : goal.returns-in_err-plan-clause-stays
+returns-in_err-plan-clause-stays g c = told_none_leaves_same _
+
+pub returns-in_err-plan-clause-writes : goal.returns-in_err-plan-clause-writes
+returns-in_err-plan-clause-writes g c =
+    let new : LogState = record { opening = c.self.inside.opening; files = c.self.inside.files.items; newest = c.self.inside.newest; used = c.self.inside.used; rid = c.self.inside.rid; unsynced = c.self.inside.unsynced; ended = true } in
+    told_failed_written c.from_residual.result c.args.self.now new _ _ (search (rules, c.from_residual.ensures)) (told_well_same _)
+
+pub returns-in_err-spots-clause-stays : goal.returns-in_err-spots-clause-stays
+returns-in_err-spots-clause-stays g c = told_none_leaves_same _
+
+pub returns-in_err-spots-clause-writes : goal.returns-in_err-spots-clause-writes
+returns-in_err-spots-clause-writes g c =
+    let new : LogState = record { opening = c.self.inside.opening; files = c.self.inside.files.items; newest = c.self.inside.newest; used = c.self.inside.used; rid = c.self.inside.rid; unsynced = c.self.inside.unsynced; ended = true } in
+    told_failed_written c.from_residual-in_err-spots.result c.args.self.now new _ _ (search (rules, c.from_residual-in_err-spots.ensures)) (told_well_same _)
+
+pub returns-in_err-taken-clause-stays : goal.returns-in_err-taken-clause-stays
+returns-in_err-taken-clause-stays g c = told_took_stays c.self.inside.opening _ _ (told_took _ c.self.inside.opening c.take_files.result _ _ c.take_files.ensures.kept)
+
+pub returns-in_err-taken-clause-writes : goal.returns-in_err-taken-clause-writes
+returns-in_err-taken-clause-writes g c =
+    let new : LogState = record { opening = c.self.inside.opening; files = c.self.inside.files.items; newest = c.self.inside.newest; used = c.self.inside.used; rid = c.self.inside.rid; unsynced = c.self.inside.unsynced; ended = true } in
+    told_failed_written c.from_residual-in_err-taken.result c.args.self.now new _ _ (search (rules, c.from_residual-in_err-taken.ensures))
+    (told_took_well c.self.inside.opening _ _ (told_took _ c.self.inside.opening c.take_files.result _ _ c.take_files.ensures.kept))
+
+pub returns-in_err-append-clause-stays : goal.returns-in_err-append-clause-stays
+returns-in_err-append-clause-stays g c = told_took_stays c.self.inside.opening _ _ (told_of (IsTakeStep c.self.inside.opening) _ _ c.in_ok-taken.ensures.kept)
+
+pub returns-in_err-append-clause-writes : goal.returns-in_err-append-clause-writes
+returns-in_err-append-clause-writes g c =
+    let new : LogState = record { opening = c.self.inside.opening; files = c.append.new.self.items; newest = c.self.inside.newest; used = c.self.inside.used; rid = c.self.inside.rid; unsynced = c.self.inside.unsynced; ended = true } in
+    told_failed_written c.from_residual-in_err-append.result c.args.self.now new _ _ (search (rules, c.from_residual-in_err-append.ensures))
+    (told_took_well c.self.inside.opening _ _ (told_of (IsTakeStep c.self.inside.opening) _ _ c.in_ok-taken.ensures.kept))
+
+pub returns-in_err-written-clause-stays : goal.returns-in_err-written-clause-stays
+returns-in_err-written-clause-stays g c =
+    told_append_stays (Seq ℕ) c.self.inside.opening c.args.self.now c.capacity-capacity.result (ids (from_written c.capacity-capacity.result c.self.inside.used c.files_from-over.result.now))
+    (if c.self.inside.used == c.capacity-capacity.result then 0 else c.self.inside.used) (spelled_over c.capacity-capacity.result (serials c.files_from-over.result.now) c.self.inside.used (with_fillers c.args.batch.now)) (Err c.in_err-written.field-0.0) _ (g.S.Site.told c.take_files.new.site) _
+    c.requires.there c.in_ok-taken.ensures.kept c.in_err-written.ensures.parts
+
+pub returns-clause-stays : goal.returns-clause-stays
+returns-clause-stays g c =
+    told_append_stays (Seq ℕ) c.self.inside.opening c.args.self.now c.capacity-capacity.result (ids (from_written c.capacity-capacity.result c.self.inside.used c.files_from-over.result.now))
+    (if c.self.inside.used == c.capacity-capacity.result then 0 else c.self.inside.used) (spelled_over c.capacity-capacity.result (serials c.files_from-over.result.now) c.self.inside.used (with_fillers c.args.batch.now)) (Ok c.in_ok-written.written) _ (g.S.Site.told c.take_files.new.site) _
+    c.requires.there c.in_ok-taken.ensures.kept c.in_ok-written.ensures.parts
+
+pub returns-in_err-written-clause-writes : goal.returns-in_err-written-clause-writes
+returns-in_err-written-clause-writes g c =
+    let l : LogState = record { opening = c.self.inside.opening; files = c.self.inside.files.items; newest = c.self.inside.newest; used = c.self.inside.used; rid = c.self.inside.rid; unsynced = c.self.inside.unsynced; ended = c.self.inside.ended } in
+    let sound : IsSound l = c.self.invariant (ap (λ (x : LogState). x.ended) c.self.view_is ∙ c.requires.unended) in
+    let cap : c.capacity-capacity.result ≡ capacity_in l.opening = c.capacity-capacity.ensures.exact in
+    let taken : List HeadedFile = c.in_ok-taken.taken.items in
+    let count : length taken ≡ length c.as_slice-fresh.result.now = headed_count l.opening l.newest c.as_slice-fresh.result.now taken c.in_ok-taken.ensures.headers in
+    let over : c.files_from-over.result.now ≡ from_newest l taken = search rules in
+    let size : length (batch_bytes l taken c.args.batch.now) ≡ c.in_ok-plan.plan.length = batch_size l taken c.args.batch.now c.in_ok-plan.plan.length c.in_ok-plan.ensures.own.bytes in
+    let some : 0 < length (batch_bytes l taken c.args.batch.now) = subst (λ n. 0 < n) (sym size) (block_facts c.args.batch.now c.in_ok-plan.plan.length c.requires.some c.in_ok-plan.ensures.own.bytes).0 in
+    let flushed : l.unsynced ≡ [] = ap (λ (x : LogState). x.unsynced) c.self.view_is ∙ c.requires.flushed in
+    let there : IfSome (g.S.Site.told c.args.site.now) (OnDisk (LogThere l)) = subst (λ (x : LogState). IfSome (g.S.Site.told c.args.site.now) (OnDisk (LogThere x))) (sym c.self.view_is) c.requires.there in
+    let new : LogState = record { opening = c.self.inside.opening; files = c.append.new.self.items; newest = c.self.inside.newest; used = c.self.inside.used; rid = c.self.inside.rid; unsynced = c.self.inside.unsynced; ended = true } in
+    let number : length taken ≡ (l.used + length (batch_bytes l taken c.args.batch.now) - 1) / capacity_in l.opening =
+    count ∙ ap length c.as_slice-fresh.ensures.same ∙ c.in_ok-plan.ensures.own.files ∙ (λ i. (l.used + sym size i - 1) / cap i) in
+    let ends = last_place (capacity_in l.opening) l.used (length (batch_bytes l taken c.args.batch.now)) (length taken) (sound_capacity l.opening sound.opening).0 some number in
+    let parts = told_batch_parts (Seq ℕ) c.args.batch.now l taken c.files_from-over.result.now c.capacity-capacity.result (Err c.in_err-written.field-0.0) (g.S.Site.told c.take_files.new.site) (g.S.Site.told c.write_batch.new.site) cap over c.in_err-written.ensures.parts in
+    let is : Err c.in_err-written.field-0.0 ≡ c.from_residual-in_err-written.result = search (rules, c.from_residual-in_err-written.ensures) in
+    subst (λ (x : LogState). Tells (StaysWritten c.from_residual-in_err-written.result x new) (g.S.Site.told c.args.site.now) (g.S.Site.told c.write_batch.new.site)) c.self.view_is
+    (told_append_err l sound flushed c.args.pool.now c.take_files.new.pool taken c.as_slice-fresh.result.now c.in_ok-taken.ensures.headers c.in_ok-taken.ensures.legal (batch_bytes l taken c.args.batch.now) ends.0 ends.1 ends.2 some
+    _ (Seq ℕ) c.in_err-written.field-0.0 c.in_err-written.field-0.0 c.from_residual-in_err-written.result new _ (g.S.Site.told c.take_files.new.site) _ is c.in_ok-taken.ensures.told c.in_ok-taken.ensures.kept parts there c.requires.pool)
+
+pub returns-clause-writes : goal.returns-clause-writes
+returns-clause-writes g c =
+    let l : LogState = record { opening = c.self.inside.opening; files = c.self.inside.files.items; newest = c.self.inside.newest; used = c.self.inside.used; rid = c.self.inside.rid; unsynced = c.self.inside.unsynced; ended = c.self.inside.ended } in
+    let sound : IsSound l = c.self.invariant (ap (λ (x : LogState). x.ended) c.self.view_is ∙ c.requires.unended) in
+    let cap : c.capacity-capacity.result ≡ capacity_in l.opening = c.capacity-capacity.ensures.exact in
+    let taken : List HeadedFile = c.in_ok-taken.taken.items in
+    let count : length taken ≡ length c.as_slice-fresh.result.now = headed_count l.opening l.newest c.as_slice-fresh.result.now taken c.in_ok-taken.ensures.headers in
+    let over : c.files_from-over.result.now ≡ from_newest l taken = search rules in
+    let size : length (batch_bytes l taken c.args.batch.now) ≡ c.in_ok-plan.plan.length = batch_size l taken c.args.batch.now c.in_ok-plan.plan.length c.in_ok-plan.ensures.own.bytes in
+    let some : 0 < length (batch_bytes l taken c.args.batch.now) = subst (λ n. 0 < n) (sym size) (block_facts c.args.batch.now c.in_ok-plan.plan.length c.requires.some c.in_ok-plan.ensures.own.bytes).0 in
+    let flushed : l.unsynced ≡ [] = ap (λ (x : LogState). x.unsynced) c.self.view_is ∙ c.requires.flushed in
+    let there : IfSome (g.S.Site.told c.args.site.now) (OnDisk (LogThere l)) = subst (λ (x : LogState). IfSome (g.S.Site.told c.args.site.now) (OnDisk (LogThere x))) (sym c.self.view_is) c.requires.there in
+    let new : LogState = record { opening = c.self.inside.opening; files = c.append.new.self.items; newest = c.self.inside.newest + length c.as_slice-fresh.result.now; used = c.used_behind-self-inside.result; rid = c.last_rid-self-inside.result; unsynced = c.in_ok-written.written; ended = false } in
+    let files : new.files ≡ l.files ++ taken = c.in_ok-append.ensures.items in
+    let used : new.used + capacity_in l.opening * length taken ≡ l.used + length (batch_bytes l taken c.args.batch.now) =
+    (λ i. c.used_behind-self-inside.result + sym cap i * count i) ∙ c.used_behind-self-inside.ensures.exact ∙ ap (λ n. l.used + n) (sym size) in
+    let within : new.used ≤ capacity_in l.opening = subst (λ n. c.used_behind-self-inside.result ≤ n) cap c.used_behind-self-inside.ensures.within in
+    let parts = told_batch_parts (Seq ℕ) c.args.batch.now l taken c.files_from-over.result.now c.capacity-capacity.result (Ok c.in_ok-written.written) (g.S.Site.told c.take_files.new.site) (g.S.Site.told c.write_batch.new.site) cap over c.in_ok-written.ensures.parts in
+    subst (λ (x : LogState). Tells (StaysWritten (Ok c.in_ok-spots.spots) x new) (g.S.Site.told c.args.site.now) (g.S.Site.told c.write_batch.new.site)) c.self.view_is
+    (told_append_ok l sound flushed c.args.pool.now c.take_files.new.pool taken c.as_slice-fresh.result.now c.in_ok-taken.ensures.headers c.in_ok-taken.ensures.legal (batch_bytes l taken c.args.batch.now) new.used within used some
+    _ (Seq ℕ) c.in_ok-spots.spots c.in_ok-written.written new refl files refl _ (g.S.Site.told c.take_files.new.site) _ c.in_ok-taken.ensures.told c.in_ok-taken.ensures.kept parts there c.requires.pool)

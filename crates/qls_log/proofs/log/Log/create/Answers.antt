@@ -1,4 +1,4 @@
-use Rattle.std.proofs.Common.{◌≡◌, [], ◌∷◌, List, IfSome, IsTrue, sym, ap, subst, rules}
+use Rattle.std.proofs.Common.{◌≡◌, [], ◌∷◌, List, Ok, Err, IfSome, IsTrue, sym, ap, subst, rules}
 use Rattle.std.specs.List.{AllByRecursion}
 use Rattle.qls_site.specs.Content.{Tells}
 use Rattle.qls_filehdr.specs.Limits.{is_legal_header}
@@ -14,6 +14,10 @@ use Rattle.qls_log.proofs.Sound.{told_begun}
 use Rattle.qls_log.proofs.News.{spent_at_once, told_new, told_start, told_reads, told_begins, told_others, room_of}
 use Rattle.qls_log.proofs.Going.{told_first}
 use Rattle.qls_log.proofs.Quiets.{told_quiet_files}
+use Rattle.qls_log.specs.Keeping.{IsTakeStep}
+use Rattle.qls_log.specs.Unwritten.{BeginsWritten}
+use Rattle.qls_pool.proofs.Moments.{told_of}
+use Rattle.qls_log.proofs.AppendSectors.{told_took, told_took_stays, told_took_well, told_begun_written, told_not_begun}
 use Rattle.qls_log.proofs.log.Log.create.Goals as goal
 
 pub returns-in_err-files-clause-spent : goal.returns-in_err-files-clause-spent
@@ -77,3 +81,30 @@ returns-clause-sound g c =
     let begins = subst (λ (l : LogState). Tells (BeginsReading l) (g.S.Site.told c.args.site.now) (g.S.Site.told c.take_files.new.site)) n.log (returns-clause-begins g c) in
     subst (λ (l : LogState). Tells (BeginsUndamaged l) (g.S.Site.told c.args.site.now) (g.S.Site.told c.take_files.new.site)) (sym n.log)
     (told_begun o n.file (g.S.Site.told c.args.site.now) (g.S.Site.told c.take_files.new.site) n.header there begins)
+
+pub returns-in_err-files-clause-stays : goal.returns-in_err-files-clause-stays
+returns-in_err-files-clause-stays g c =
+    let o : Opening = record { kind = c.args.kind; name = c.args.name; home = c.args.home; epoch = 1 } in
+    told_took_stays o _ _ (told_took _ o c.take_files.result _ _ c.take_files.ensures.kept)
+
+pub returns-in_err-files-clause-writes : goal.returns-in_err-files-clause-writes
+returns-in_err-files-clause-writes g c =
+    let o : Opening = record { kind = c.args.kind; name = c.args.name; home = c.args.home; epoch = 1 } in
+    let is : Err c.in_err-files.field-0.0 ≡ c.from_residual.result = search (rules, c.from_residual.ensures) in
+    told_not_begun LogState (λ l. l) c.in_err-files.field-0.0 c.from_residual.result _ _ is (told_took_well o _ _ (told_took _ o c.take_files.result _ _ c.take_files.ensures.kept))
+
+pub returns-clause-stays : goal.returns-clause-stays
+returns-clause-stays g c =
+    let o : Opening = record { kind = c.args.kind; name = c.args.name; home = c.args.home; epoch = 1 } in
+    told_took_stays o _ _ (told_of (IsTakeStep o) _ _ c.in_ok-files.ensures.kept)
+
+pub returns-clause-writes : goal.returns-clause-writes
+returns-clause-writes g c =
+    let o : Opening = record { kind = c.args.kind; name = c.args.name; home = c.args.home; epoch = 1 } in
+    let n = returns-clause-new g c in
+    let files : c.in_ok-files.files.items ≡ n.file ∷ [] = ap (λ (l : LogState). l.files) n.log in
+    let legal = subst (λ (hs : List HeadedFile). AllByRecursion (λ h. IsTrue (is_legal_header h.header)) hs) files c.in_ok-files.ensures.legal in
+    let told = subst (λ (hs : List HeadedFile). Tells (TakesFiles o.home c.args.pool.now c.take_files.new.pool hs) (g.S.Site.told c.args.site.now) (g.S.Site.told c.take_files.new.site)) files c.in_ok-files.ensures.told in
+    subst (λ (l : LogState). Tells (BeginsWritten {X = LogState} (Ok l) (λ x. x)) (g.S.Site.told c.args.site.now) (g.S.Site.told c.take_files.new.site)) (sym n.log)
+    (told_begun_written o c.args.pool.now c.take_files.new.pool n.file _ _ told n.header legal c.in_ok-files.ensures.kept c.requires.pool
+    (told_new o c.args.pool.now c.take_files.new.pool n.file n.header legal _ _ told c.requires.pool c.requires.new))

@@ -1,4 +1,4 @@
-use Rattle.std.proofs.Common.{◌≡◌, [], Ok, Err, IfSome, sym, ap, ◌∙◌, subst, rules}
+use Rattle.std.proofs.Common.{◌≡◌, true, [], Ok, Err, IfSome, sym, ap, ◌∙◌, subst, rules}
 use Rattle.qls_site.specs.Content.{Tells}
 use Rattle.qls_blocks.specs.Parts.{Syncs, HasFiles}
 use Rattle.qls_pool.specs.Files.{OnDisk, Carries}
@@ -13,6 +13,8 @@ use Rattle.qls_log.proofs.Flushes.{there_are, waiting_of, told_same, told_pool, 
 use Rattle.qls_log.specs.Faults.{fault_of_site}
 use Rattle.qls_log.specs.Steps.{IsLogStep, GoesBy}
 use Rattle.qls_log.proofs.OwnWrites.{told_log_own, told_syncs, stopped_own, ended_own, goes_of, none_of}
+use Rattle.qls_log.specs.Unwritten.{StaysWritten}
+use Rattle.qls_log.proofs.Passing.{told_flush, told_none_leaves, told_flush_ok, told_flush_err}
 use Rattle.qls_log.proofs.log.Log.flush.Goals as goal
 
 pub sync_parts-requires : goal.sync_parts-requires
@@ -113,3 +115,22 @@ pub returns-clause-sound : goal.returns-clause-sound
 returns-clause-sound g c =
     subst (λ (l : LogState). Carries (IsUndamaged c.args.self.now) (IsUndamaged l) (g.S.Site.told c.args.site.now) (g.S.Site.told c.sync_parts.new.site)) (sym (returns-clause-log g c))
     (told_still_undamaged c.args.self.now c.self.inside.unsynced (Ok c.in_ok-sync_parts.field-0) _ _ c.in_ok-sync_parts.ensures.told)
+
+pub returns-in_err-sync_parts-clause-stays : goal.returns-in_err-sync_parts-clause-stays
+returns-in_err-sync_parts-clause-stays g c =
+    told_none_leaves _ _ (told_flush c.args.self.now c.self.inside.unsynced (Err c.in_err-sync_parts.field-0.0) _ _ c.requires.there c.in_err-sync_parts.ensures.told)
+
+pub returns-clause-stays : goal.returns-clause-stays
+returns-clause-stays g c = told_none_leaves _ _ (told_flush c.args.self.now c.self.inside.unsynced (Ok c.in_ok-sync_parts.field-0) _ _ c.requires.there c.in_ok-sync_parts.ensures.told)
+
+pub returns-in_err-sync_parts-clause-writes : goal.returns-in_err-sync_parts-clause-writes
+returns-in_err-sync_parts-clause-writes g c =
+    let is : Err (fault_of_site c.in_err-sync_parts.field-0.0) ≡ c.from_residual.result = search (rules, c.from_residual.ensures) in
+    let new : LogState = record { opening = c.self.inside.opening; files = c.self.inside.files.items; newest = c.self.inside.newest; used = c.self.inside.used; rid = c.self.inside.rid; unsynced = c.self.inside.unsynced; ended = true } in
+    told_flush_err (fault_of_site c.in_err-sync_parts.field-0.0) c.from_residual.result c.args.self.now new _ _ is c.requires.there
+    (told_flush c.args.self.now c.self.inside.unsynced (Err c.in_err-sync_parts.field-0.0) _ _ c.requires.there c.in_err-sync_parts.ensures.told)
+
+pub returns-clause-writes : goal.returns-clause-writes
+returns-clause-writes g c =
+    subst (λ (l : LogState). Tells (StaysWritten (Ok (tt {0})) c.args.self.now l) (g.S.Site.told c.args.site.now) (g.S.Site.told c.sync_parts.new.site)) (sym (returns-clause-log g c))
+    (told_flush_ok c.args.self.now (tt {0}) _ _ c.requires.there (told_flush c.args.self.now c.self.inside.unsynced (Ok c.in_ok-sync_parts.field-0) _ _ c.requires.there c.in_ok-sync_parts.ensures.told))

@@ -9,6 +9,7 @@ use Rattle.qls_log.specs.Returning.{MayReturn, Returned}
 use Rattle.qls_log.specs.Appending.{LeavesOthers}
 use Rattle.qls_log.proofs.OwnWrites.{stopped_own, goes_of, none_of}
 use Rattle.qls_log.proofs.Releases.{told_may_return, told_whole, told_gone, told_leaves, told_goes}
+use Rattle.qls_log.proofs.BackSteps.{told_backs_well}
 use Rattle.qls_log.proofs.log.Log.remove.Goals as goal
 
 pub give_back_each-requires : goal.give_back_each-requires
@@ -84,3 +85,15 @@ returns-clause-none g c =
     let may : IfSome (g.S.Site.told c.args.site.now) (OnDisk (MayReturn l.opening c.args.pool.now (l.files ++ []))) = told_may_return l c.args.pool.now (l.files ++ []) _ (append-nil l.files) sound there c.requires.pool in
     let back : Tells (Returned l.opening c.give_back_each.new.pool [] l.files) (g.S.Site.told c.args.site.now) (g.S.Site.told c.give_back_each.new.site) = c.in_ok-give_back_each.ensures.back l.opening [] may in
     none_of l.opening (Ok (tt {0})) _ _ (told_goes l.opening c.give_back_each.new.pool [] l.files _ _ back)
+
+pub returns-in_err-give_back_each-clause-writes : goal.returns-in_err-give_back_each-clause-writes
+returns-in_err-give_back_each-clause-writes g c =
+    let l : LogState = record { opening = c.self.inside.opening; files = c.self.inside.files.items; newest = c.self.inside.newest; used = c.self.inside.used; rid = c.self.inside.rid; unsynced = c.self.inside.unsynced; ended = c.self.inside.ended } in
+    let there : IfSome (g.S.Site.told c.args.site.now) (OnDisk (LogThere l)) = subst (λ (x : LogState). IfSome (g.S.Site.told c.args.site.now) (OnDisk (LogThere x))) (sym c.self.view_is) c.requires.there in
+    told_backs_well l l.files (Err c.in_err-give_back_each.field-0.0) _ _ there c.in_err-give_back_each.ensures.told
+
+pub returns-clause-writes : goal.returns-clause-writes
+returns-clause-writes g c =
+    let l : LogState = record { opening = c.self.inside.opening; files = c.self.inside.files.items; newest = c.self.inside.newest; used = c.self.inside.used; rid = c.self.inside.rid; unsynced = c.self.inside.unsynced; ended = c.self.inside.ended } in
+    let there : IfSome (g.S.Site.told c.args.site.now) (OnDisk (LogThere l)) = subst (λ (x : LogState). IfSome (g.S.Site.told c.args.site.now) (OnDisk (LogThere x))) (sym c.self.view_is) c.requires.there in
+    told_backs_well l l.files (Ok (tt {0})) _ _ there c.in_ok-give_back_each.ensures.told
