@@ -6,3 +6,14 @@ pub mod Says
 pub mod Applied
 pub mod Finds
 pub mod Ended
+pub mod Then
+pub mod Going
+pub mod Back
+pub mod Begun
+pub mod Copies
+pub mod HeldFiles
+pub mod DeadFiles
+pub mod Unlinked
+pub mod GoneDead
+pub mod Released
+pub mod Emptied

@@ -23,11 +23,11 @@ use Rattle.qls_queue.proofs.Replays.{queue_append, held_append, queue_filled}
 
 -- ---- the rid in the oldest file's header
 
-abbrev front_rid : List HeadedFile → ℕ
+abbrev pub front_rid : List HeadedFile → ℕ
 front_rid [] = 0
 front_rid (h ∷ hs) = h.header.rid
 
-oldest_of : (cap : ℕ) (hs : List HeadedFile) (fs : List Headed) → AreThoseFiles cap hs fs → oldest_rid fs ≡ front_rid hs
+pub oldest_of : (cap : ℕ) (hs : List HeadedFile) (fs : List Headed) → AreThoseFiles cap hs fs → oldest_rid fs ≡ front_rid hs
 oldest_of cap [] [] t = refl
 oldest_of cap [] (f ∷ fs) t = absurd t
 oldest_of cap (h ∷ hs) [] t = absurd t

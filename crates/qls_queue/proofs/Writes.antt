@@ -1,5 +1,5 @@
 -- A batch that is appended and then flushed.
-use Rattle.std.proofs.Common.{◌≡◌, inl, inr, ℕ, zero, suc, ◌+◌, ◌-◌, ◌<◌, ◌≤◌, Bool, true, false, cond, ◌||◌, ◌==◌, eqb, List, [], ◌∷◌, ◌++◌, length, drop, Option, Some, None, Result, Ok, Err, IsErr, refl, sym, ap, ◌∙◌, append_assoc, append-nil, option_map, arith}
+use Rattle.std.proofs.Common.{◌≡◌, inl, inr, ℕ, zero, suc, ◌+◌, ◌-◌, ◌<◌, ◌≤◌, Bool, true, false, cond, ◌||◌, ◌==◌, eqb, List, [], ◌∷◌, ◌++◌, length, drop, Option, Some, None, Result, Ok, Err, IsErr, refl, sym, ap, ◌∙◌, subst, append_assoc, append-nil, option_map, arith}
 use Rattle.std.proofs.lemmas.List.{length-map, length-drop}
 use Rattle.std.proofs.Math.Seq.{drop-append_seam}
 use Rattle.qls_record.specs.Record.{Record}
@@ -11,7 +11,7 @@ use Rattle.qls_blocks.specs.Parts.{with_sync, with_syncs}
 use Rattle.qls_pool.specs.Pools.{PoolState}
 use Rattle.qls_pool.specs.Files.{HeadedFile, Carries, is_among}
 use Rattle.qls_pool.proofs.Disks.{found_id}
-use Rattle.qls_log.specs.Logs.{LogState, capacity_in, ids}
+use Rattle.qls_log.specs.Logs.{LogState, IsSound, capacity_in, ids}
 use Rattle.qls_log.specs.Writing.{from_written}
 use Rattle.qls_log.specs.Appending.{TakesAndWrites, SyncsAll, LeavesOthers, HasAppended, written_files, from_newest}
 use Rattle.qls_log.specs.Reads.{IsRead, ReadsOn, batch_reads}
@@ -30,7 +30,7 @@ syncs_moments (id ∷ ids) c =
     let rest = syncs_moments ids one in
     (one.now ∷ rest.0, rest.1 ∙ append_assoc c.moments (one.now ∷ []) rest.0)
 
-adds_then : (a m b : Content) (more : List Moment) → m.moments ≡ a.moments ++ moments_since a m → b.moments ≡ m.moments ++ more → b.moments ≡ a.moments ++ moments_since a b
+pub adds_then : (a m b : Content) (more : List Moment) → m.moments ≡ a.moments ++ moments_since a m → b.moments ≡ m.moments ++ more → b.moments ≡ a.moments ++ moments_since a b
 adds_then a m b more e w =
     let all : b.moments ≡ a.moments ++ (moments_since a m ++ more) = w ∙ ap (λ (ms : List Moment). ms ++ more) e ∙ append_assoc a.moments (moments_since a m) more in
     all ∙ ap (λ (ms : List Moment). a.moments ++ ms) (sym (ap (drop (length a.moments)) all ∙ drop-append_seam a.moments (moments_since a m ++ more)))
@@ -67,6 +67,23 @@ told_written rs old between pool left taken x None (Some y) b r s = absurd r
 told_written rs old between pool left taken x (Some w) None b r s = absurd r
 told_written rs old between pool left taken x (Some w) (Some y) None r s = absurd s
 told_written rs old between pool left taken x (Some w) (Some y) (Some z) r s = record { pending = y; writes = r; syncs = s }
+
+-- ---- the log
+
+pub sound_flushed : (l new : LogState) → new ≡ record l { unsynced = [] } → IsSound l → IsSound new
+sound_flushed l new e s =
+    subst IsSound (sym e) (record {
+      opening = s.opening;
+      own = s.own;
+      legal = s.legal;
+      some = s.some;
+      few = s.few;
+      numbers = s.numbers;
+      newest = s.newest;
+      used = s.used;
+      rid = s.rid;
+      unsynced = tt;
+    })
 
 -- ---- what stays
 

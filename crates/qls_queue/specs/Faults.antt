@@ -32,3 +32,8 @@ pub record QueueCauses {X : Type 0} (sites sites_now draws draws_now : ℕ) (res
   pub draws_kept : draws ≤ draws_now
   pub failed : result ≡ Err Failed → Rose sites sites_now
   pub draw : result ≡ Err Draw → Rose draws draws_now
+
+-- the same of a call that takes no serials
+pub record SiteCauses {X : Type 0} (sites sites_now : ℕ) (result : Result X QueueError) : Type 0 where
+  pub kept : sites ≤ sites_now
+  pub failed : result ≡ Err Failed → Rose sites sites_now

@@ -1,14 +1,15 @@
 // The heads of the records that a queue writes, and which messages are taken.
-ghost use Rattle.std.specs.Prelude.{◌≡◌, ◌≤◌, ◌<◌, ◌^◌, false, length, option_map, option_copied, IsTrue};
+ghost use Rattle.std.specs.Prelude.{◌≡◌, ◌≤◌, ◌<◌, ◌^◌, false, length, option_map, option_copied, IfOk, IsTrue};
 ghost use Rattle.qls_record.specs.Head.{is_legal_head};
-ghost use Rattle.qls_replay.specs.Held.{message_of};
+ghost use Rattle.qls_replay.specs.Held.{message_of, messages_of};
 ghost use Rattle.qls_queue.specs.Answers.{take_answer, BodyAnswer};
 ghost use Rattle.qls_queue.specs.Records.{xid_of};
 
 use crate::fault::QueueError;
-use qls_enqmap::Held;
-use qls_model::{Bytes, Status, Xid};
+use qls_enqmap::{EnqMap, Held};
+use qls_model::{Bytes, Message, NoMemory, Seq, Status, Xid};
 use qls_record::{Head, Kind};
+use std::alloc::Global;
 
 /// The xid as a record has it: empty where there is none.
 pub(crate) fn xid_or_none(xid: Option<Xid>) -> Xid
@@ -79,4 +80,26 @@ pub(crate) fn body_copy(held: Option<&Held>) -> Result<Bytes, QueueError>
         None => Err(QueueError::Unknown),
         Some(held) => Ok(held.body.copy()?),
     }
+}
+
+/// A copy of a message that is held.
+fn message_copy(held: &Held) -> Result<Message, NoMemory>
+    ensures exact { IfOk result (λ message. message ≡ message_of held.now) }
+{
+    Ok(Message {
+        number: held.rid,
+        body: held.body.copy()?,
+        status: held.status,
+    })
+}
+
+/// Copies of all messages that are held, in order.
+pub(crate) fn copy_messages(alloc: Global, held: &EnqMap) -> Result<Seq<Message>, NoMemory>
+    ensures exact { IfOk result (λ messages. messages ≡ messages_of held.now) }
+{
+    let mut messages = Seq::new(alloc);
+    while let Some(one) = held.at(messages.len()) {
+        messages.push(message_copy(one)?)?;
+    }
+    Ok(messages)
 }

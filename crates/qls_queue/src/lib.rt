@@ -8,10 +8,13 @@ mod ends;
 mod fault;
 mod heads;
 mod live;
+mod release;
 mod write;
 
 pub use fault::QueueError;
 pub use live::LiveQueue;
 
+#[cfg(test)]
+mod back_tests;
 #[cfg(test)]
 mod tests;

@@ -7,6 +7,8 @@ ghost use Rattle.qls_record.specs.Head.{is_legal_head, record_with};
 ghost use Rattle.qls_pool.specs.Pools.{IsSpent};
 ghost use Rattle.qls_pool.specs.Files.{IsPoolOf, IsWholePool, OnDisk, Carries};
 ghost use Rattle.qls_pool.specs.Discipline.{Orderly};
+ghost use Rattle.qls_pool.specs.Moments.{Passes};
+ghost use Rattle.qls_pool.specs.Serials.{DrawsTaken};
 ghost use Rattle.qls_meaning.specs.Replay.{after_record};
 ghost use Rattle.std.specs.List.{AllByRecursion};
 ghost use Rattle.std.specs.List.Sorted.{IsStrictlySortedBy};
@@ -17,24 +19,29 @@ ghost use Rattle.qls_model.specs.Messages.{with_message, message_at};
 ghost use Rattle.qls_model.specs.Machine.{put_message, taken};
 ghost use Rattle.qls_queue.specs.Answers.{take_answer, BodyAnswer, body_at, numbered, is_pending};
 ghost use Rattle.qls_blocks.specs.Plans.{plan_of};
-ghost use Rattle.qls_log.specs.Logs.{IsLegalOpening, capacity_in};
+ghost use Rattle.qls_blocks.specs.Batching.{length_of, block_length};
+ghost use Rattle.qls_log.specs.Logs.{IsLegalOpening, capacity_in, IsSound as IsSoundLog};
+ghost use Rattle.qls_log.specs.Leaving.{NoneLeaves};
+ghost use Rattle.qls_log.specs.Steps.{IsLogStep, MeetsEndWith, KeepsRoom};
 ghost use Rattle.qls_log.specs.Faults.{Counts};
 ghost use Rattle.qls_log.specs.Taking.{TakesFiles, DrawsEach, MeetsEnd};
 ghost use Rattle.qls_log.specs.Standing.{files_on};
 ghost use Rattle.qls_log.specs.Appending.{IsNew, LeavesOthers, ReadsInImages};
-ghost use Rattle.qls_queue.specs.Live.{IsSound, QueueThere, BeginsQueue, QueueReadsOn};
+ghost use Rattle.qls_queue.specs.Live.{IsSound, QueueThere};
+ghost use Rattle.qls_queue.specs.Moments.{is_exact, GoesBy, LeavesDead, BeginsWritten, StaysWritten};
+ghost use Rattle.qls_queue.specs.Releasing.{HasWrittenAndReleased, BeginsClean, BecomesClean, StaysWhole};
 ghost use Rattle.qls_queue.specs.Faults.{is_end, is_fault, QueueCauses};
 ghost use Rattle.qls_queue.specs.Writing.{HasWritten, syncs_of};
 ghost use Rattle.qls_queue.specs.Records.{opening_of, enqueue_of, dequeue_of, end_records, ended_by, IsXid};
 
 use crate::ends::{batch_of_ends, end_all};
 use crate::fault::QueueError;
-use crate::heads::{body_copy, dequeue, enqueue, may_take, xid_or_none};
+use crate::heads::{body_copy, copy_messages, dequeue, enqueue, may_take, xid_or_none};
 use crate::write::{write_batch, write_one};
 use qls_decide::End;
 use qls_filehdr::JournalKind;
 use qls_log::Log;
-use qls_model::{Bytes, Name, NoMemory, PoolId, Seq, Status, Xid};
+use qls_model::{Bytes, Message, Name, NoMemory, PoolId, Seq, Status, Xid};
 use qls_pool::Pool;
 use qls_record::Head;
 use qls_replay::QueueReplay;
@@ -52,10 +59,10 @@ pub(crate) const LAST_NUMBER: u64 = (1 << 62) - 1;
 #[derive(Drop)]
 pub struct LiveQueue {
     alloc: Global,
-    log: Log,
+    pub(crate) log: Log,
     /// The messages, each in the files of its record, and the operations of pending transactions.
-    tables: QueueReplay,
-    ended: bool,
+    pub(crate) tables: QueueReplay,
+    pub(crate) ended: bool,
 }
 
 impl Model for LiveQueue {
@@ -94,7 +101,9 @@ impl LiveQueue {
         ensures drawn { IfOk result (λ q. DrawsEach q.log.files (N.drawn serials.old) (N.drawn serials.new)) }
         ensures there { IfOk result (λ q. IfSome (S.told site.new) (OnDisk (QueueThere q))) }
         ensures pool { IfOk result (λ _. IfSome (S.told site.new) (OnDisk (IsWholePool pool.new))) }
-        ensures reading { IfOk result (λ q. Tells (BeginsQueue q) (S.told site.old) (S.told site.new)) }
+        ensures sound { IfOk result IsSound }
+        ensures legal { IfOk result (λ q. IsSoundLog q.log) }
+        ensures clean { IfOk result (λ q. Tells (BeginsClean q) (S.told site.old) (S.told site.new)) }
         ensures others { IfOk result (λ q. Tells (LeavesOthers q.log.files) (S.told site.old) (S.told site.new)) }
         ensures quiet { IfOk result (λ _. Carries IsQuiet IsQuiet (S.told site.old) (S.told site.new)) }
         ensures refusals { IfErr result (λ e. is_fault e ≡ true) }
@@ -104,6 +113,13 @@ impl LiveQueue {
         ensures syncs { Counts (S.told site.old) result 1 (S.syncs site.old) (S.syncs site.new) }
         ensures reads { S.reads site.new ≡ S.reads site.old }
         ensures orderly { Orderly (IsPoolOf pool.old []) result (S.told site.old) (S.told site.new) }
+        ensures went { Tells (GoesBy (IsLogStep (opening_of name home)) result) (S.told site.old) (S.told site.new) }
+        ensures drew { DrawsTaken (is_exact result) (S.told site.old) (S.told site.new) (N.drawn serials.old) (N.drawn serials.new) }
+        ensures stays { Tells (Passes NoneLeaves) (S.told site.old) (S.told site.new) }
+        ensures writes { Tells (BeginsWritten result) (S.told site.old) (S.told site.new) }
+        ensures limit { pool.old.greatest < 2 ^ 62 → pool.new.greatest < 2 ^ 62 }
+        ensures no_call { result ≡ Err QueueError.Spent → site.new ≡ site.old }
+        ensures spent_pool { result ≡ Err QueueError.Spent → pool.new ≡ pool.old }
     {
         let log = Log::create(alloc, site, pool, serials, JournalKind::Queue, name, home)?;
         Ok(LiveQueue {
@@ -138,10 +154,17 @@ impl LiveQueue {
         ensures written { IfOk result (λ _. HasWritten (record_with head xid body ∷ []) self.old.log self.new.log pool.old pool.new (N.drawn serials.old) (N.drawn serials.new) (S.told site.old) (S.told site.new)) }
         ensures there { self.new.ended ≡ false → IfSome (S.told site.new) (OnDisk (QueueThere self.new)) }
         ensures pool { self.new.ended ≡ false → IfSome (S.told site.new) (OnDisk (IsPoolOf pool.new [])) }
-        ensures reading { IfOk result (λ _. Tells (QueueReadsOn self.old self.new) (S.told site.old) (S.told site.new)) }
+        ensures sound { IfOk result (λ _. IsSound self.new) }
+        ensures whole { IfOk result (λ _. Tells (StaysWhole self.old self.new) (S.told site.old) (S.told site.new)) }
         ensures others { IfOk result (λ _. Tells (LeavesOthers self.new.log.files) (S.told site.old) (S.told site.new)) }
         ensures quiet { IfOk result (λ _. Carries IsQuiet IsQuiet (S.told site.old) (S.told site.new)) }
-        ensures images { IfOk result (λ _. Carries IsQuiet (ReadsInImages self.new.log) (S.told site.old) (S.told site.new)) }
+        ensures went { Tells (GoesBy (IsLogStep self.old.log.opening) result) (S.told site.old) (S.told site.new) }
+        ensures drew { DrawsTaken (is_exact result) (S.told site.old) (S.told site.new) (N.drawn serials.old) (N.drawn serials.new) }
+        ensures stays { Tells (Passes NoneLeaves) (S.told site.old) (S.told site.new) }
+        ensures writes { Tells (StaysWritten result self.old self.new) (S.told site.old) (S.told site.new) }
+        ensures limit { pool.old.greatest < 2 ^ 62 → pool.new.greatest < 2 ^ 62 }
+        ensures ends { result ≡ Err QueueError.Spent → IfSome (S.told site.new) (OnDisk (MeetsEndWith self.old.log (block_length (length_of (record_with head xid body ∷ []))))) }
+        ensures room { result ≡ Err QueueError.Spent → Tells (KeepsRoom self.old.log) (S.told site.old) (S.told site.new) }
         ensures spent { result ≡ Err QueueError.Spent → MeetsEnd self.old.log.opening self.old.log.newest (length (plan_of (record_with head xid body ∷ []) self.old.log.used (capacity_in self.old.log.opening) self.old.log.rid).fresh) pool.new }
         ensures at_end { 0 < length (plan_of (record_with head xid body ∷ []) self.old.log.used (capacity_in self.old.log.opening) self.old.log.rid).fresh → MeetsEnd self.old.log.opening self.old.log.newest 1 pool.old → (result ≡ Err QueueError.Spent) ⊎ (result ≡ Err QueueError.Memory) }
         ensures cause { QueueCauses (S.faults site.old) (S.faults site.new) (N.faults serials.old) (N.faults serials.new) result }
@@ -156,8 +179,56 @@ impl LiveQueue {
         Ok(())
     }
 
+    /// Writes one record, applies it to the queue, and gives the files back that died by it.
+    fn write_and_release<S: Site, N: Serials>(
+        &mut self,
+        site: &mut S,
+        pool: &mut Pool,
+        serials: &mut N,
+        head: Head,
+        xid: Xid,
+        body: Bytes,
+    ) -> Result<(), QueueError>
+        requires legal { IsTrue (is_legal_head head) }
+        requires xid { length xid ≡ head.xid_size }
+        requires body { length body ≡ head.body_size }
+        requires unended { self.old.ended ≡ false }
+        requires rid { head.rid ≡ rid_given self.old.queue.last head.kind }
+        requires rid_fits { head.rid < 2 ^ 62 }
+        requires there { IfSome (S.told site.old) (OnDisk (QueueThere self.old)) }
+        requires pool { IfSome (S.told site.old) (OnDisk (IsPoolOf pool.old [])) }
+        ensures ended { self.new.ended ≡ is_end result }
+        ensures refusals { IfErr result (λ e. is_fault e ≡ true) }
+        ensures queue { IfOk result (λ _. self.new.queue ≡ after_record head.kind (record_with head xid body) self.old.queue) }
+        ensures written { IfOk result (λ _. HasWrittenAndReleased (record_with head xid body ∷ []) self.old self.new pool.old pool.new (N.drawn serials.old) (N.drawn serials.new) (S.told site.old) (S.told site.new)) }
+        ensures there { self.new.ended ≡ false → IfSome (S.told site.new) (OnDisk (QueueThere self.new)) }
+        ensures pool { self.new.ended ≡ false → IfSome (S.told site.new) (OnDisk (IsWholePool pool.new)) }
+        ensures sound { IfOk result (λ _. IsSound self.new) }
+        ensures log { IfOk result (λ _. IsSoundLog self.new.log) }
+        ensures one { IfOk result (λ _. self.new.queue.messages ≡ [] → length self.new.log.files ≡ 1) }
+        ensures clean { IfOk result (λ _. Tells (BecomesClean self.old self.new) (S.told site.old) (S.told site.new)) }
+        ensures quiet { IfOk result (λ _. Carries IsQuiet IsQuiet (S.told site.old) (S.told site.new)) }
+        ensures images { IfOk result (λ _. Carries IsQuiet (ReadsInImages self.new.log) (S.told site.old) (S.told site.new)) }
+        ensures went { Tells (GoesBy (IsLogStep self.old.log.opening) result) (S.told site.old) (S.told site.new) }
+        ensures drew { DrawsTaken (is_exact result) (S.told site.old) (S.told site.new) (N.drawn serials.old) (N.drawn serials.new) }
+        ensures stays { result ≡ Err QueueError.Spent → Tells (Passes NoneLeaves) (S.told site.old) (S.told site.new) }
+        ensures leaves { Tells (LeavesDead self.old) (S.told site.old) (S.told site.new) }
+        ensures writes { Tells (StaysWritten result self.old self.new) (S.told site.old) (S.told site.new) }
+        ensures limit { pool.old.greatest < 2 ^ 62 → pool.new.greatest < 2 ^ 62 }
+        ensures ends { result ≡ Err QueueError.Spent → IfSome (S.told site.new) (OnDisk (MeetsEndWith self.old.log (block_length (length_of (record_with head xid body ∷ []))))) }
+        ensures room { result ≡ Err QueueError.Spent → Tells (KeepsRoom self.old.log) (S.told site.old) (S.told site.new) }
+        ensures spent { result ≡ Err QueueError.Spent → MeetsEnd self.old.log.opening self.old.log.newest (length (plan_of (record_with head xid body ∷ []) self.old.log.used (capacity_in self.old.log.opening) self.old.log.rid).fresh) pool.new }
+        ensures at_end { 0 < length (plan_of (record_with head xid body ∷ []) self.old.log.used (capacity_in self.old.log.opening) self.old.log.rid).fresh → MeetsEnd self.old.log.opening self.old.log.newest 1 pool.old → (result ≡ Err QueueError.Spent) ⊎ (result ≡ Err QueueError.Memory) }
+        ensures cause { QueueCauses (S.faults site.old) (S.faults site.new) (N.faults serials.old) (N.faults serials.new) result }
+        ensures syncs { Counts (S.told site.old) result (syncs_of self.old.log (record_with head xid body ∷ [])) (S.syncs site.old) (S.syncs site.new) }
+        ensures reads { S.reads site.new ≡ S.reads site.old }
+    {
+        self.write_record(site, pool, serials, head, xid, body)?;
+        self.release(site, pool)
+    }
+
     /// Puts a message, by the transaction where there is one, and answers its number: one more than the last one. It
-    /// appends one enqueue, flushes it, and then holds the message.
+    /// appends one enqueue, flushes it, and then holds the message. Files that are dead then go back to their pool.
     ///
     /// Numbers exactly where the last number is 2^62 - 1; then nothing changes and no call is made. The body has at most
     /// 1,048,576 bytes and the xid 1 to 128. The queue isn't ended; where told, the site has its journal as its last call
@@ -178,11 +249,13 @@ impl LiveQueue {
         ensures ended { self.new.ended ≡ is_end result }
         ensures number { IfOk result (λ number. number ≡ self.old.queue.last + 1) }
         ensures queue { IfOk result (λ number. self.new.queue ≡ with_message (put_message number body xid) self.old.queue) }
-        ensures written { IfOk result (λ number. HasWritten (enqueue_of number body xid ∷ []) self.old.log self.new.log pool.old pool.new (N.drawn serials.old) (N.drawn serials.new) (S.told site.old) (S.told site.new)) }
+        ensures written { IfOk result (λ number. HasWrittenAndReleased (enqueue_of number body xid ∷ []) self.old self.new pool.old pool.new (N.drawn serials.old) (N.drawn serials.new) (S.told site.old) (S.told site.new)) }
         ensures there { self.new.ended ≡ false → IfSome (S.told site.new) (OnDisk (QueueThere self.new)) }
-        ensures pool { self.new.ended ≡ false → IfSome (S.told site.new) (OnDisk (IsPoolOf pool.new [])) }
-        ensures reading { IfOk result (λ _. Tells (QueueReadsOn self.old self.new) (S.told site.old) (S.told site.new)) }
-        ensures others { IfOk result (λ _. Tells (LeavesOthers self.new.log.files) (S.told site.old) (S.told site.new)) }
+        ensures pool { self.new.ended ≡ false → IfSome (S.told site.new) (OnDisk (IsWholePool pool.new)) }
+        ensures sound { IfOk result (λ _. IsSound self.new) }
+        ensures log { IfOk result (λ _. IsSoundLog self.new.log) }
+        ensures one { IfOk result (λ _. self.new.queue.messages ≡ [] → length self.new.log.files ≡ 1) }
+        ensures clean { IfOk result (λ _. Tells (BecomesClean self.old self.new) (S.told site.old) (S.told site.new)) }
         ensures numbers { result ≡ Err QueueError.Numbers → self.old.queue.last ≡ 2 ^ 62 - 1 }
         ensures at_last { self.old.queue.last ≡ 2 ^ 62 - 1 → result ≡ Err QueueError.Numbers }
         ensures refused { result ≡ Err QueueError.Numbers → self.new ≡ self.old }
@@ -190,6 +263,14 @@ impl LiveQueue {
         ensures no_other { (result ≡ Err QueueError.Unknown → ⊥) × (result ≡ Err QueueError.Locked → ⊥) }
         ensures quiet { IfOk result (λ _. Carries IsQuiet IsQuiet (S.told site.old) (S.told site.new)) }
         ensures images { IfOk result (λ _. Carries IsQuiet (ReadsInImages self.new.log) (S.told site.old) (S.told site.new)) }
+        ensures went { Tells (GoesBy (IsLogStep self.old.log.opening) result) (S.told site.old) (S.told site.new) }
+        ensures drew { DrawsTaken (is_exact result) (S.told site.old) (S.told site.new) (N.drawn serials.old) (N.drawn serials.new) }
+        ensures stays { result ≡ Err QueueError.Spent → Tells (Passes NoneLeaves) (S.told site.old) (S.told site.new) }
+        ensures leaves { Tells (LeavesDead self.old) (S.told site.old) (S.told site.new) }
+        ensures writes { Tells (StaysWritten result self.old self.new) (S.told site.old) (S.told site.new) }
+        ensures limit { pool.old.greatest < 2 ^ 62 → pool.new.greatest < 2 ^ 62 }
+        ensures ends { result ≡ Err QueueError.Spent → IfSome (S.told site.new) (OnDisk (MeetsEndWith self.old.log (block_length (length_of (enqueue_of (self.old.queue.last + 1) body xid ∷ []))))) }
+        ensures room { result ≡ Err QueueError.Spent → Tells (KeepsRoom self.old.log) (S.told site.old) (S.told site.new) }
         ensures spent { result ≡ Err QueueError.Spent → MeetsEnd self.old.log.opening self.old.log.newest (length (plan_of (enqueue_of (self.old.queue.last + 1) body xid ∷ []) self.old.log.used (capacity_in self.old.log.opening) self.old.log.rid).fresh) pool.new }
         ensures at_end { self.old.queue.last < 2 ^ 62 - 1 → 0 < length (plan_of (enqueue_of (self.old.queue.last + 1) body xid ∷ []) self.old.log.used (capacity_in self.old.log.opening) self.old.log.rid).fresh → MeetsEnd self.old.log.opening self.old.log.newest 1 pool.old → (result ≡ Err QueueError.Spent) ⊎ (result ≡ Err QueueError.Memory) }
         ensures cause { QueueCauses (S.faults site.old) (S.faults site.new) (N.faults serials.old) (N.faults serials.new) result }
@@ -202,12 +283,12 @@ impl LiveQueue {
         }
         let xid = xid_or_none(xid);
         let head = enqueue(last + 1, &xid, &body);
-        self.write_record(site, pool, serials, head, xid, body)?;
+        self.write_and_release(site, pool, serials, head, xid, body)?;
         Ok(last + 1)
     }
 
     /// Takes a message, by the transaction where there is one: it goes, or it is going by the transaction. It appends one
-    /// dequeue, flushes it, and then lets the message go.
+    /// dequeue, flushes it, and then lets the message go. Files that are dead then go back to their pool, oldest first.
     ///
     /// Unknown exactly where no message has that number, and Locked exactly where the message isn't ready; then nothing
     /// changes and no call is made. The xid has 1 to 128 bytes. The queue isn't ended; where told, the site has its
@@ -227,17 +308,27 @@ impl LiveQueue {
         requires pool { IfSome (S.told site.old) (OnDisk (IsPoolOf pool.old [])) }
         ensures ended { self.new.ended ≡ is_end result }
         ensures queue { IfOk result (λ _. self.new.queue ≡ taken number xid self.old.queue) }
-        ensures written { IfOk result (λ _. HasWritten (dequeue_of self.old.queue.last number xid ∷ []) self.old.log self.new.log pool.old pool.new (N.drawn serials.old) (N.drawn serials.new) (S.told site.old) (S.told site.new)) }
+        ensures written { IfOk result (λ _. HasWrittenAndReleased (dequeue_of self.old.queue.last number xid ∷ []) self.old self.new pool.old pool.new (N.drawn serials.old) (N.drawn serials.new) (S.told site.old) (S.told site.new)) }
         ensures there { self.new.ended ≡ false → IfSome (S.told site.new) (OnDisk (QueueThere self.new)) }
-        ensures pool { self.new.ended ≡ false → IfSome (S.told site.new) (OnDisk (IsPoolOf pool.new [])) }
-        ensures reading { IfOk result (λ _. Tells (QueueReadsOn self.old self.new) (S.told site.old) (S.told site.new)) }
-        ensures others { IfOk result (λ _. Tells (LeavesOthers self.new.log.files) (S.told site.old) (S.told site.new)) }
+        ensures pool { self.new.ended ≡ false → IfSome (S.told site.new) (OnDisk (IsWholePool pool.new)) }
+        ensures sound { IfOk result (λ _. IsSound self.new) }
+        ensures log { IfOk result (λ _. IsSoundLog self.new.log) }
+        ensures one { IfOk result (λ _. self.new.queue.messages ≡ [] → length self.new.log.files ≡ 1) }
+        ensures clean { IfOk result (λ _. Tells (BecomesClean self.old self.new) (S.told site.old) (S.told site.new)) }
         ensures refusals { (e : QueueError) → take_answer (message_at self.old.queue.messages number) ≡ Err e → result ≡ Err e }
         ensures only { IfErr result (λ e. is_fault e ≡ false → take_answer (message_at self.old.queue.messages number) ≡ Err e) }
         ensures refused { IfErr result (λ e. is_fault e ≡ false → self.new ≡ self.old) }
         ensures no_call { IfErr result (λ e. is_fault e ≡ false → (site.new ≡ site.old) × (pool.new ≡ pool.old) × (serials.new ≡ serials.old)) }
         ensures quiet { IfOk result (λ _. Carries IsQuiet IsQuiet (S.told site.old) (S.told site.new)) }
         ensures images { IfOk result (λ _. Carries IsQuiet (ReadsInImages self.new.log) (S.told site.old) (S.told site.new)) }
+        ensures went { Tells (GoesBy (IsLogStep self.old.log.opening) result) (S.told site.old) (S.told site.new) }
+        ensures drew { DrawsTaken (is_exact result) (S.told site.old) (S.told site.new) (N.drawn serials.old) (N.drawn serials.new) }
+        ensures stays { result ≡ Err QueueError.Spent → Tells (Passes NoneLeaves) (S.told site.old) (S.told site.new) }
+        ensures leaves { Tells (LeavesDead self.old) (S.told site.old) (S.told site.new) }
+        ensures writes { Tells (StaysWritten result self.old self.new) (S.told site.old) (S.told site.new) }
+        ensures limit { pool.old.greatest < 2 ^ 62 → pool.new.greatest < 2 ^ 62 }
+        ensures ends { result ≡ Err QueueError.Spent → IfSome (S.told site.new) (OnDisk (MeetsEndWith self.old.log (block_length (length_of (dequeue_of self.old.queue.last number xid ∷ []))))) }
+        ensures room { result ≡ Err QueueError.Spent → Tells (KeepsRoom self.old.log) (S.told site.old) (S.told site.new) }
         ensures spent { result ≡ Err QueueError.Spent → MeetsEnd self.old.log.opening self.old.log.newest (length (plan_of (dequeue_of self.old.queue.last number xid ∷ []) self.old.log.used (capacity_in self.old.log.opening) self.old.log.rid).fresh) pool.new }
         ensures at_end { take_answer (message_at self.old.queue.messages number) ≡ Ok tt → 0 < length (plan_of (dequeue_of self.old.queue.last number xid ∷ []) self.old.log.used (capacity_in self.old.log.opening) self.old.log.rid).fresh → MeetsEnd self.old.log.opening self.old.log.newest 1 pool.old → (result ≡ Err QueueError.Spent) ⊎ (result ≡ Err QueueError.Memory) }
         ensures cause { QueueCauses (S.faults site.old) (S.faults site.new) (N.faults serials.old) (N.faults serials.new) result }
@@ -251,7 +342,53 @@ impl LiveQueue {
         let xid = xid_or_none(xid);
         let head = dequeue(self.log.rid(), number, &xid);
         let body = Bytes::from_vec(Vec::new(self.alloc));
-        self.write_record(site, pool, serials, head, xid, body)
+        self.write_and_release(site, pool, serials, head, xid, body)
+    }
+
+    /// Writes the ends of transactions as one batch, and carries them out in the queue.
+    fn write_ends<S: Site, N: Serials>(
+        &mut self,
+        site: &mut S,
+        pool: &mut Pool,
+        serials: &mut N,
+        ends: &Seq<End>,
+    ) -> Result<(), QueueError>
+        requires unended { self.old.ended ≡ false }
+        requires some { 0 < length ends.now }
+        requires xids { AllByRecursion (λ e. IsXid e.xid) ends.now }
+        requires there { IfSome (S.told site.old) (OnDisk (QueueThere self.old)) }
+        requires pool { IfSome (S.told site.old) (OnDisk (IsPoolOf pool.old [])) }
+        ensures ended { self.new.ended ≡ is_end result }
+        ensures refusals { IfErr result (λ e. is_fault e ≡ true) }
+        ensures queue { IfOk result (λ _. self.new.queue ≡ ended_by ends.now self.old.queue) }
+        ensures written { IfOk result (λ _. HasWritten (end_records self.old.queue.last ends.now) self.old.log self.new.log pool.old pool.new (N.drawn serials.old) (N.drawn serials.new) (S.told site.old) (S.told site.new)) }
+        ensures there { self.new.ended ≡ false → IfSome (S.told site.new) (OnDisk (QueueThere self.new)) }
+        ensures pool { self.new.ended ≡ false → IfSome (S.told site.new) (OnDisk (IsPoolOf pool.new [])) }
+        ensures sound { IfOk result (λ _. IsSound self.new) }
+        ensures whole { IfOk result (λ _. Tells (StaysWhole self.old self.new) (S.told site.old) (S.told site.new)) }
+        ensures others { IfOk result (λ _. Tells (LeavesOthers self.new.log.files) (S.told site.old) (S.told site.new)) }
+        ensures quiet { IfOk result (λ _. Carries IsQuiet IsQuiet (S.told site.old) (S.told site.new)) }
+        ensures went { Tells (GoesBy (IsLogStep self.old.log.opening) result) (S.told site.old) (S.told site.new) }
+        ensures drew { DrawsTaken (is_exact result) (S.told site.old) (S.told site.new) (N.drawn serials.old) (N.drawn serials.new) }
+        ensures stays { Tells (Passes NoneLeaves) (S.told site.old) (S.told site.new) }
+        ensures writes { Tells (StaysWritten result self.old self.new) (S.told site.old) (S.told site.new) }
+        ensures limit { pool.old.greatest < 2 ^ 62 → pool.new.greatest < 2 ^ 62 }
+        ensures ends { result ≡ Err QueueError.Spent → IfSome (S.told site.new) (OnDisk (MeetsEndWith self.old.log (block_length (length_of (end_records self.old.queue.last ends.now))))) }
+        ensures room { result ≡ Err QueueError.Spent → Tells (KeepsRoom self.old.log) (S.told site.old) (S.told site.new) }
+        ensures spent { result ≡ Err QueueError.Spent → MeetsEnd self.old.log.opening self.old.log.newest (length (plan_of (end_records self.old.queue.last ends.now) self.old.log.used (capacity_in self.old.log.opening) self.old.log.rid).fresh) pool.new }
+        ensures at_end { 0 < length (plan_of (end_records self.old.queue.last ends.now) self.old.log.used (capacity_in self.old.log.opening) self.old.log.rid).fresh → MeetsEnd self.old.log.opening self.old.log.newest 1 pool.old → (result ≡ Err QueueError.Spent) ⊎ (result ≡ Err QueueError.Memory) }
+        ensures cause { QueueCauses (S.faults site.old) (S.faults site.new) (N.faults serials.old) (N.faults serials.new) result }
+        ensures syncs { Counts (S.told site.old) result (syncs_of self.old.log (end_records self.old.queue.last ends.now)) (S.syncs site.old) (S.syncs site.new) }
+        ensures reads { S.reads site.new ≡ S.reads site.old }
+    {
+        let last = self.log.rid();
+        self.ended = true;
+        let ends = ends.as_slice();
+        let batch = batch_of_ends(self.alloc, last, ends)?;
+        let _spots = write_batch(&mut self.log, site, pool, serials, &batch)?;
+        end_all(&mut self.tables, ends);
+        self.ended = false;
+        Ok(())
     }
 
     /// Ends transactions, in order: each as a commit or an abort of its xid does. It appends one batch with a record for
@@ -274,27 +411,31 @@ impl LiveQueue {
         ensures ended { self.new.ended ≡ is_end result }
         ensures refusals { IfErr result (λ e. is_fault e ≡ true) }
         ensures queue { IfOk result (λ _. self.new.queue ≡ ended_by ends.now self.old.queue) }
-        ensures written { IfOk result (λ _. HasWritten (end_records self.old.queue.last ends.now) self.old.log self.new.log pool.old pool.new (N.drawn serials.old) (N.drawn serials.new) (S.told site.old) (S.told site.new)) }
+        ensures written { IfOk result (λ _. HasWrittenAndReleased (end_records self.old.queue.last ends.now) self.old self.new pool.old pool.new (N.drawn serials.old) (N.drawn serials.new) (S.told site.old) (S.told site.new)) }
         ensures there { self.new.ended ≡ false → IfSome (S.told site.new) (OnDisk (QueueThere self.new)) }
-        ensures pool { self.new.ended ≡ false → IfSome (S.told site.new) (OnDisk (IsPoolOf pool.new [])) }
-        ensures reading { IfOk result (λ _. Tells (QueueReadsOn self.old self.new) (S.told site.old) (S.told site.new)) }
-        ensures others { IfOk result (λ _. Tells (LeavesOthers self.new.log.files) (S.told site.old) (S.told site.new)) }
+        ensures pool { self.new.ended ≡ false → IfSome (S.told site.new) (OnDisk (IsWholePool pool.new)) }
+        ensures sound { IfOk result (λ _. IsSound self.new) }
+        ensures log { IfOk result (λ _. IsSoundLog self.new.log) }
+        ensures one { IfOk result (λ _. self.new.queue.messages ≡ [] → length self.new.log.files ≡ 1) }
+        ensures clean { IfOk result (λ _. Tells (BecomesClean self.old self.new) (S.told site.old) (S.told site.new)) }
         ensures quiet { IfOk result (λ _. Carries IsQuiet IsQuiet (S.told site.old) (S.told site.new)) }
         ensures images { IfOk result (λ _. Carries IsQuiet (ReadsInImages self.new.log) (S.told site.old) (S.told site.new)) }
+        ensures went { Tells (GoesBy (IsLogStep self.old.log.opening) result) (S.told site.old) (S.told site.new) }
+        ensures drew { DrawsTaken (is_exact result) (S.told site.old) (S.told site.new) (N.drawn serials.old) (N.drawn serials.new) }
+        ensures stays { result ≡ Err QueueError.Spent → Tells (Passes NoneLeaves) (S.told site.old) (S.told site.new) }
+        ensures leaves { Tells (LeavesDead self.old) (S.told site.old) (S.told site.new) }
+        ensures writes { Tells (StaysWritten result self.old self.new) (S.told site.old) (S.told site.new) }
+        ensures limit { pool.old.greatest < 2 ^ 62 → pool.new.greatest < 2 ^ 62 }
+        ensures ends { result ≡ Err QueueError.Spent → IfSome (S.told site.new) (OnDisk (MeetsEndWith self.old.log (block_length (length_of (end_records self.old.queue.last ends.now))))) }
+        ensures room { result ≡ Err QueueError.Spent → Tells (KeepsRoom self.old.log) (S.told site.old) (S.told site.new) }
         ensures spent { result ≡ Err QueueError.Spent → MeetsEnd self.old.log.opening self.old.log.newest (length (plan_of (end_records self.old.queue.last ends.now) self.old.log.used (capacity_in self.old.log.opening) self.old.log.rid).fresh) pool.new }
         ensures at_end { 0 < length (plan_of (end_records self.old.queue.last ends.now) self.old.log.used (capacity_in self.old.log.opening) self.old.log.rid).fresh → MeetsEnd self.old.log.opening self.old.log.newest 1 pool.old → (result ≡ Err QueueError.Spent) ⊎ (result ≡ Err QueueError.Memory) }
         ensures cause { QueueCauses (S.faults site.old) (S.faults site.new) (N.faults serials.old) (N.faults serials.new) result }
         ensures syncs { Counts (S.told site.old) result (syncs_of self.old.log (end_records self.old.queue.last ends.now)) (S.syncs site.old) (S.syncs site.new) }
         ensures reads { S.reads site.new ≡ S.reads site.old }
     {
-        let last = self.log.rid();
-        self.ended = true;
-        let ends = ends.as_slice();
-        let batch = batch_of_ends(self.alloc, last, ends)?;
-        let _spots = write_batch(&mut self.log, site, pool, serials, &batch)?;
-        end_all(&mut self.tables, ends);
-        self.ended = false;
-        Ok(())
+        self.write_ends(site, pool, serials, ends)?;
+        self.release(site, pool)
     }
 
     /// A copy of the body of the message of that number. It makes no call on the site and changes nothing.
@@ -316,6 +457,21 @@ impl LiveQueue {
     {
         let held = self.tables.held().at(at)?;
         Some((held.rid, held.status))
+    }
+
+    /// The queue's name.
+    pub fn name(&self) -> &Name
+        ensures exact { result.now ≡ self.now.queue.name }
+    {
+        self.log.name()
+    }
+
+    /// A copy of the messages, in order.
+    pub fn messages(&self) -> Result<Seq<Message>, NoMemory>
+        requires unended { self.now.ended ≡ false }
+        ensures exact { IfOk result (λ messages. messages ≡ self.now.queue.messages) }
+    {
+        copy_messages(self.alloc, self.tables.held())
     }
 
     /// The last number that the queue gave, 0 where it gave none. It is below 2^62.

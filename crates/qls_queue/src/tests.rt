@@ -19,7 +19,7 @@ use std::test::Fail;
 const HOME: PoolId = PoolId { part: 1, kib: 8 };
 
 /// The pools of a site without files.
-fn open_pools<S: Site>(alloc: Global, site: &mut S) -> Result<Pool, Fail>
+pub(crate) fn open_pools<S: Site>(alloc: Global, site: &mut S) -> Result<Pool, Fail>
     requires fits { IfSome (S.told site.old) (OnDisk (λ d. d ≡ [])) }
     ensures pool { IfOk result (λ pool. IfSome (S.told site.new) (OnDisk (IsWholePool pool))) }
     ensures empty { IfOk result (λ _. IfSome (S.told site.new) (OnDisk (λ d. d ≡ []))) }
@@ -130,7 +130,7 @@ fn answer(outcome: Result<u64, QueueError>) -> u8 {
 }
 
 /// Runs the commands until the queue is ended, and gives their answers.
-fn run<S: Site, N: Serials>(
+pub(crate) fn run<S: Site, N: Serials>(
     alloc: Global,
     queue: &mut LiveQueue,
     site: &mut S,
@@ -189,7 +189,7 @@ fn check_pending(rt: &impl Abort, queue: &LiveQueue, wanted: &[u8]) -> Result<()
 }
 
 /// The files as they stand now, with nothing of what is pending.
-fn now(alloc: Global, site: &MemSite) -> Result<Seq<ImageFile>, Fail> {
+pub(crate) fn now(alloc: Global, site: &MemSite) -> Result<Seq<ImageFile>, Fail> {
     let moments = site.moment_count();
     if moments == 0 {
         return Err("no moment".into());
@@ -198,12 +198,12 @@ fn now(alloc: Global, site: &MemSite) -> Result<Seq<ImageFile>, Fail> {
     Ok(files)
 }
 
-/// The record at the front of a block, where each file has two blocks and the serials count from 7: the letter of its
-/// kind, its record id and its target.
-fn record_at(files: &Seq<ImageFile>, block: usize) -> Option<(u8, u64, u64)> {
+/// The record of this serial at the front of a block, where each file has two: the letter of its kind, its record id and
+/// its target.
+fn record_at(files: &Seq<ImageFile>, block: usize, serial: u64) -> Option<(u8, u64, u64)> {
     let file = files.get(block / 2)?;
     let from = file.bytes.as_slice().get(4096 + block % 2 * 4096..)?;
-    let head = read_whole(from, block as u64 / 2 + 7)?;
+    let head = read_whole(from, serial)?;
     let kind = match head.kind {
         Kind::Enqueue => b'e',
         Kind::Dequeue => b'd',
@@ -281,24 +281,24 @@ fn each_answer_once(rt: HostRuntime) -> Result<(), Fail> {
     check_records(&rt, &now(alloc, &site)?)
 }
 
-/// The records of the test above, in order.
+/// The records of the test above, block for block: the first file went back when its messages were gone, and the last
+/// commit took it again, with the next serial.
 fn check_records(rt: &impl Abort, files: &Seq<ImageFile>) -> Result<(), Fail> {
     let wanted = [
-        (b'e', 1, 0),
-        (b'e', 2, 0),
-        (b'd', 2, 1),
-        (b'e', 3, 0),
-        (b'd', 3, 3),
-        (b'c', 3, 0),
-        (b'a', 3, 0),
-        (b'd', 3, 2),
-        (b'c', 3, 0),
+        (11, b'c', 3, 0),
+        (7, b'e', 2, 0),
+        (8, b'd', 2, 1),
+        (8, b'e', 3, 0),
+        (9, b'd', 3, 3),
+        (9, b'c', 3, 0),
+        (10, b'a', 3, 0),
+        (10, b'd', 3, 2),
     ];
-    assert_eq!(rt; files.len(), 5);
-    for (block, record) in wanted.iter().enumerate() {
-        assert_eq!(rt; record_at(files, block), Some(*record), "{block}");
+    assert_eq!(rt; files.len(), 4);
+    for (block, (serial, kind, rid, target)) in wanted.iter().enumerate() {
+        let record = record_at(files, block, *serial);
+        assert_eq!(rt; record, Some((*kind, *rid, *target)), "{block}");
     }
-    assert_eq!(rt; record_at(files, wanted.len()), None);
     Ok(())
 }
 

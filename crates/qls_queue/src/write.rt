@@ -4,11 +4,17 @@ ghost use Rattle.qls_site.specs.Content.{Tells};
 ghost use Rattle.qls_site.specs.Disk.{IsQuiet};
 ghost use Rattle.qls_record.specs.Record.{rid_given};
 ghost use Rattle.qls_record.specs.Head.{is_legal_head, record_with};
-ghost use Rattle.qls_pool.specs.Files.{IsPoolOf, OnDisk, Carries};
+ghost use Rattle.qls_pool.specs.Files.{IsPoolOf, IsWholePool, OnDisk, Carries};
+ghost use Rattle.qls_pool.specs.Moments.{Passes};
+ghost use Rattle.qls_pool.specs.Serials.{DrawsTaken};
 ghost use Rattle.qls_meaning.specs.Reading.{read_of};
-ghost use Rattle.qls_blocks.specs.Batching.{laid_from};
+ghost use Rattle.qls_blocks.specs.Batching.{laid_from, length_of, block_length};
 ghost use Rattle.qls_blocks.specs.Plans.{plan_of};
-ghost use Rattle.qls_log.specs.Logs.{capacity_in};
+ghost use Rattle.qls_log.specs.Logs.{IsSound, capacity_in};
+ghost use Rattle.qls_log.specs.Leaving.{NoneLeaves};
+ghost use Rattle.qls_log.specs.Soundness.{StaysUndamaged};
+ghost use Rattle.qls_log.specs.Steps.{IsLogStep, GoesBy, MeetsEndWith, KeepsRoom, is_exact};
+ghost use Rattle.qls_log.specs.Unwritten.{StaysWritten};
 ghost use Rattle.qls_log.specs.Faults.{LogCauses, Counts};
 ghost use Rattle.qls_log.specs.Taking.{MeetsEnd};
 ghost use Rattle.qls_log.specs.Spots.{spot_of};
@@ -50,6 +56,16 @@ pub(crate) fn write_batch<S: Site, N: Serials>(
     ensures others { IfOk result (λ _. Tells (LeavesOthers log.new.files) (S.told site.old) (S.told site.new)) }
     ensures quiet { IfOk result (λ _. Carries IsQuiet IsQuiet (S.told site.old) (S.told site.new)) }
     ensures images { IfOk result (λ _. Carries IsQuiet (ReadsInImages log.new) (S.told site.old) (S.told site.new)) }
+    ensures whole { IfOk result (λ _. IfSome (S.told site.new) (OnDisk (IsWholePool pool.new))) }
+    ensures legal { IfOk result (λ _. IsSound log.new) }
+    ensures sound { IfOk result (λ _. Tells (StaysUndamaged log.old log.new) (S.told site.old) (S.told site.new)) }
+    ensures went { Tells (GoesBy (IsLogStep log.old.opening) result) (S.told site.old) (S.told site.new) }
+    ensures drew { DrawsTaken (is_exact result) (S.told site.old) (S.told site.new) (N.drawn serials.old) (N.drawn serials.new) }
+    ensures stays { Tells (Passes NoneLeaves) (S.told site.old) (S.told site.new) }
+    ensures writes { Tells (StaysWritten result log.old log.new) (S.told site.old) (S.told site.new) }
+    ensures limit { pool.old.greatest < 2 ^ 62 → pool.new.greatest < 2 ^ 62 }
+    ensures ends { result ≡ Err LogError.Spent → IfSome (S.told site.new) (OnDisk (MeetsEndWith log.old (block_length (length_of (batch.now))))) }
+    ensures room { result ≡ Err LogError.Spent → Tells (KeepsRoom log.old) (S.told site.old) (S.told site.new) }
     ensures spent { result ≡ Err LogError.Spent → MeetsEnd log.old.opening log.old.newest (length (plan_of batch.now log.old.used (capacity_in log.old.opening) log.old.rid).fresh) pool.new }
     ensures at_end { 0 < length (plan_of batch.now log.old.used (capacity_in log.old.opening) log.old.rid).fresh → MeetsEnd log.old.opening log.old.newest 1 pool.old → (result ≡ Err LogError.Spent) ⊎ (result ≡ Err LogError.Memory) }
     ensures cause { LogCauses (S.faults site.old) (S.faults site.new) (N.faults serials.old) (N.faults serials.new) result }
@@ -105,6 +121,16 @@ pub(crate) fn write_one<S: Site, N: Serials>(
     ensures others { IfOk result (λ _. Tells (LeavesOthers log.new.files) (S.told site.old) (S.told site.new)) }
     ensures quiet { IfOk result (λ _. Carries IsQuiet IsQuiet (S.told site.old) (S.told site.new)) }
     ensures images { IfOk result (λ _. Carries IsQuiet (ReadsInImages log.new) (S.told site.old) (S.told site.new)) }
+    ensures whole { IfOk result (λ _. IfSome (S.told site.new) (OnDisk (IsWholePool pool.new))) }
+    ensures legal { IfOk result (λ _. IsSound log.new) }
+    ensures sound { IfOk result (λ _. Tells (StaysUndamaged log.old log.new) (S.told site.old) (S.told site.new)) }
+    ensures went { Tells (GoesBy (IsLogStep log.old.opening) result) (S.told site.old) (S.told site.new) }
+    ensures drew { DrawsTaken (is_exact result) (S.told site.old) (S.told site.new) (N.drawn serials.old) (N.drawn serials.new) }
+    ensures stays { Tells (Passes NoneLeaves) (S.told site.old) (S.told site.new) }
+    ensures writes { Tells (StaysWritten result log.old log.new) (S.told site.old) (S.told site.new) }
+    ensures limit { pool.old.greatest < 2 ^ 62 → pool.new.greatest < 2 ^ 62 }
+    ensures ends { result ≡ Err LogError.Spent → IfSome (S.told site.new) (OnDisk (MeetsEndWith log.old (block_length (length_of (record_with head xid body ∷ []))))) }
+    ensures room { result ≡ Err LogError.Spent → Tells (KeepsRoom log.old) (S.told site.old) (S.told site.new) }
     ensures spent { result ≡ Err LogError.Spent → MeetsEnd log.old.opening log.old.newest (length (plan_of (record_with head xid body ∷ []) log.old.used (capacity_in log.old.opening) log.old.rid).fresh) pool.new }
     ensures at_end { 0 < length (plan_of (record_with head xid body ∷ []) log.old.used (capacity_in log.old.opening) log.old.rid).fresh → MeetsEnd log.old.opening log.old.newest 1 pool.old → (result ≡ Err LogError.Spent) ⊎ (result ≡ Err LogError.Memory) }
     ensures cause { LogCauses (S.faults site.old) (S.faults site.new) (N.faults serials.old) (N.faults serials.new) result }
