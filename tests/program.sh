@@ -32,6 +32,13 @@ run() {
     err=$(cat err.txt)
 }
 
+# ended STATUS REPLIES ERROR: how the run ended
+ended() {
+    is status "$status" "$1"
+    is replies "$out" "$2"
+    is 'standard error' "$err" "$3"
+}
+
 # A line for each file and folder: kind, path, and a checksum of each file's bytes.
 tree() {
     find "$1" -printf '%y %p\n' 2>/dev/null | sort
@@ -102,9 +109,7 @@ is 'the checksum of the message with serial 7' "$(message $seven | cut -c93-100)
 
 scenario='a folder that is missing'
 run a/b/store run 1 4 <script.txt
-is status "$status" 0
-is replies "$out" $'ok\nok 1'
-is 'standard error' "$err" ''
+ended 0 $'ok\nok 1' ''
 is 'the files' "$(cd a/b/store && find . -type f)" "./inuse/$FIRST"
 serial=$(bytes_of "a/b/store/inuse/$FIRST" | cut -c17-32)
 is 'the file' "$(bytes_of "a/b/store/inuse/$FIRST")" "$(whole_file "$serial")"
@@ -221,6 +226,68 @@ is status "$status" 0
 is replies "$out" $'ok\nrefused line'
 is 'files in use' "$(find grown/more/inuse -name '*.qls' | wc -l)" 1
 
+# ---- messages that are taken, and files that go back
+
+# The ids of the whole files in a folder, without leading zeros
+ids_in() { find "$1" -maxdepth 1 -name '*.qls' -printf '%f\n' 2>/dev/null | sort | sed 's/^0*//; s/[.]qls$//' | tr '\n' ' '; }
+
+scenario='put, list, take, drop'
+printf '%s\n' 'queue a' 'put a 6869' 'put a 01' 'list a' 'drop a' 'take a 1' 'take a 1' 'list a' 'take a 2' 'list a' 'drop a' 'list a' >lines.txt
+run taken run 1 4 <lines.txt
+ended 0 $'ok\nok 1\nok 2\nok 2\n1 ready 6869\n2 ready 01\nrefused busy\nok\nrefused message\nok 1\n2 ready 01\nok\nok 0\nok\nrefused queue' ''
+is 'files in use' "$(ids_in taken/inuse)" ''
+is 'files in the pool' "$(ids_in taken/empty/1/4)" '1 2 3 '
+
+scenario='a file that goes back'
+printf 'queue a\nput a 6869\ntake a 1\n' >lines.txt
+run back run 1 4 <lines.txt
+ended 0 $'ok\nok 1\nok' ''
+serial=$(bytes_of "back/empty/1/4/$FIRST" | cut -c17-32)
+is 'the file in its pool' "$(bytes_of "back/empty/1/4/$FIRST")" "$(whole_file "$serial")"
+two=$(serial_of back 2)
+is 'the header of the other' "$(bytes_of "$(file_at back 2)" | cut -c1-8192)" "$(header_of "$two" 1 4096 2)"
+
+scenario='a body over 25 files that comes and goes'
+long=$(repeat 5a 100000)
+{
+    printf 'queue a\n'
+    for number in 1 2 3; do printf 'put a %s\nlist a\ntake a %s\n' "$long" $number; done
+} >lines.txt
+run spans run 1 4 <lines.txt
+wanted='ok'
+for number in 1 2 3; do wanted+=$'\n'"ok $number"$'\n'"ok 1"$'\n'"$number ready $long"$'\n'ok; done
+ended 0 "$wanted" ''
+is 'files in use' "$(find spans/inuse -name '*.qls' | wc -l)" 1
+is 'files in the pool' "$(find spans/empty/1/4 -name '*.qls' | wc -l)" 25
+
+scenario='a thousand rounds in the space of one'
+rounds() {
+    local round
+    printf 'queue a\n'
+    for ((round = 1; round <= $1; round++)); do printf 'put a 01\ntake a %s\n' $round; done
+}
+rounds 1 >lines.txt
+run once run 1 4 <lines.txt
+ended 0 $'ok\nok 1\nok' ''
+rounds 1000 >lines.txt
+timeout 600 "$qls" often run 1 4 <lines.txt >out.txt 2>err.txt
+is status "$?" 0
+is 'the last replies' "$(tail -n 2 out.txt | tr '\n' ' ')" 'ok 1000 ok '
+is 'standard error' "$(cat err.txt)" ''
+is 'files' "$(find often -name '*.qls' | wc -l)" "$(find once -name '*.qls' | wc -l)"
+is 'files in use' "$(ids_in often/inuse)" '2 '
+
+scenario='a queue in a pool of its own'
+printf 'queue a 2 8\nqueue b\nput a 01\nput a 02\nput b 01\n' >lines.txt
+run pooled run 1 4 <lines.txt
+ended 0 $'ok\nok\nok 1\nok 2\nok 1' ''
+is 'the file of a' "$(stat -c %s "$(file_at pooled 1)")" 12288
+is 'the file of b' "$(stat -c %s "$(file_at pooled 2)")" 8192
+printf 'queue a 2 8\ndrop a\n' >lines.txt
+run dropped run 1 4 <lines.txt
+ended 0 $'ok\nok' ''
+is 'the pools' "$(cd dropped && find . -name '*.qls')" "./empty/2/8/$FIRST"
+
 scenario='a folder that is empty, and what a cut left in it'
 mkdir -p store/empty/1/4 store/empty/2/8 store/inuse
 printf 'left' | tee "store/empty/1/4/$UNFINISHED" "store/empty/2/8/$UNFINISHED" >"store/inuse/$UNFINISHED"
@@ -259,18 +326,14 @@ truncate -s 8192 last/empty/2/4/4611686018427387903.qls
 before=$(tree last/empty)
 printf 'put a 01\nqueue a\nqueue b\n' >three.txt
 run last run 1 4 <three.txt
-is status "$status" 9
-is replies "$out" 'refused queue'
-is 'standard error' "$err" 'counter spent'
+ended 9 'refused queue' 'counter spent'
 is 'what lies there' "$(tree last/empty)" "$before"
 
 scenario='an empty file of another size'
 mkdir -p broken/empty/1/4
 truncate -s 8193 "broken/empty/1/4/$FIRST"
 run broken run 1 4 <script.txt
-is status "$status" 10
-is replies "$out" ''
-is 'standard error' "$err" 'store not empty'
+ended 10 '' 'store not empty'
 
 scenario='the empty script'
 run none run 1 4 </dev/null
@@ -290,9 +353,7 @@ for ((wait = 0; wait < 300; wait++)); do
 done
 before=$(tree shared)
 run shared run 1 4 <script.txt
-is status "$status" 5
-is replies "$out" ''
-is 'standard error' "$err" 'site fault'
+ended 5 '' 'site fault'
 is 'what lies there' "$(tree shared)" "$before"
 printf 'put a 6869\n' >&7
 exec 7>&-
@@ -307,9 +368,7 @@ else
     mkdir locked && chmod 555 locked
     before=$(tree locked)
     run locked run 1 4 <script.txt
-    is status "$status" 5
-    is replies "$out" ''
-    is 'standard error' "$err" 'site fault'
+    ended 5 '' 'site fault'
     is 'what lies there' "$(tree locked)" "$before"
 fi
 
@@ -327,18 +386,14 @@ else
     out=$(cat out.txt)
     err=$(cat err.txt)
 fi
-is status "$status" 5
-is replies "$out" ''
-is 'standard error' "$err" 'site fault'
+ended 5 '' 'site fault'
 is 'the files' "$(find small -type f)" ''
 umount small 2>/dev/null
 
 scenario='a script that is a folder'
 mkdir folder
 run unread run 1 4 <folder
-is status "$status" 4
-is replies "$out" ''
-is 'standard error' "$err" 'source fault'
+ended 4 '' 'source fault'
 is 'what is made' "$(tree unread)" ''
 
 scenario='standard output that is closed'
@@ -373,9 +428,7 @@ faulty() {
     local before
     before=$(tree "$2")
     run "$2" run 1 4 <script.txt
-    is status "$status" 5
-    is replies "$out" ''
-    is 'standard error' "$err" 'site fault'
+    ended 5 '' 'site fault'
     is 'what lies there' "$(tree "$2")" "$before"
 }
 
@@ -409,9 +462,7 @@ fi
 usage() {
     scenario="the words '$*'"
     run "$@" <folder
-    is status "$status" 2
-    is replies "$out" ''
-    is 'standard error' "$err" "$USAGE"
+    ended 2 '' "$USAGE"
 }
 usage
 usage d

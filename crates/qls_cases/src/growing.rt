@@ -10,7 +10,7 @@ use std::process::Abort;
 use std::test::Fail;
 
 // Puts of so many bytes 5a each into a new queue.
-fn puts(alloc: Global, sizes: &[usize]) -> Result<Bytes, Fail> {
+pub(crate) fn puts(alloc: Global, sizes: &[usize]) -> Result<Bytes, Fail> {
     let mut script = Bytes::new(alloc, b"queue a\n")?;
     for size in sizes {
         script.add(b"put a ")?;
@@ -26,7 +26,7 @@ fn puts(alloc: Global, sizes: &[usize]) -> Result<Bytes, Fail> {
 }
 
 // Eight bytes of a file, as a little-endian number.
-fn number_at(files: &Seq<ImageFile>, file: usize, at: usize) -> Option<u64> {
+pub(crate) fn number_at(files: &Seq<ImageFile>, file: usize, at: usize) -> Option<u64> {
     let bytes = files.get(file)?.bytes.as_slice().get(at..)?;
     let (eight, _) = bytes.split_first_chunk::<8>()?;
     Some(u64::from_le_bytes(*eight))
@@ -39,7 +39,7 @@ fn magic_at(files: &Seq<ImageFile>, file: usize, at: usize) -> Option<u64> {
 }
 
 // A file of the journal has this first place, rid and serial, and its place in the row as its number.
-fn check_header(
+pub(crate) fn check_header(
     rt: &impl Abort,
     files: &Seq<ImageFile>,
     file: u16,

@@ -10,6 +10,8 @@ mod outside;
 #[cfg(test)]
 mod pools;
 #[cfg(test)]
+mod returning;
+#[cfg(test)]
 mod scripts;
 #[cfg(test)]
 mod stored;

@@ -7,9 +7,14 @@ use std::alloc::Global;
 use std::test::Fail;
 
 // Words, a script, its answers, and how many files it leaves.
-const SCRIPTS: [(&str, &str, &str, usize); 10] = [
+const SCRIPTS: [(&str, &str, &str, usize); 17] = [
     ("d run 1 4", "", "", 0),
-    ("d run 1 4", "queue a\nput a 6869\n", "ok\nok 1\n", 1),
+    (
+        "d run 1 4",
+        "queue a\nput a 6869\nlist a\n",
+        "ok\nok 1\nok 1\n1 ready 6869\n",
+        1,
+    ),
     ("d run 1 4", "queue a\nput a -\n", "ok\nok 1\n", 1),
     (
         "d run 1 4",
@@ -25,8 +30,8 @@ const SCRIPTS: [(&str, &str, &str, usize); 10] = [
     ),
     (
         "d run 1 4",
-        "queue a\nqueue b\nput b 01\nput a 01\n",
-        "ok\nok\nok 1\nok 1\n",
+        "queue b\nqueue a\nput b 01\nput a 02\nlist b\nlist a\n",
+        "ok\nok\nok 1\nok 1\nok 1\n1 ready 01\nok 1\n1 ready 02\n",
         2,
     ),
     (
@@ -39,7 +44,49 @@ const SCRIPTS: [(&str, &str, &str, usize); 10] = [
     ("d run 1 4", "queue a\nput a 0", "ok\nrefused line\n", 1),
     (
         "d run 1 4",
-        "take a 1\nlist a\nbegin 01\nqueue a 1 8\nput a 01 in 02\n",
+        "begin 01\nprepare 01\ncommit 01\nabort 01\ndoubt\nput a 01 in 02\ntake a 1 in 02\n",
+        "refused line\nrefused line\nrefused line\nrefused line\nrefused line\nrefused line\nrefused line\n",
+        0,
+    ),
+    (
+        "d run 1 4",
+        "take a 1\nlist a\ndrop a\n",
+        "refused queue\nrefused queue\nrefused queue\n",
+        0,
+    ),
+    (
+        "d run 1 4",
+        "queue a\nput a 01\ntake a 1\nqueue b\nlist b\n",
+        "ok\nok 1\nok\nok\nok 0\n",
+        2,
+    ),
+    (
+        "d run 1 4",
+        "queue a\nput a 01\ntake a 1\ntake a 1\ndrop a\nqueue a\nput a 02\n",
+        "ok\nok 1\nok\nrefused message\nok\nok\nok 1\n",
+        2,
+    ),
+    (
+        "d run 1 4",
+        "queue a\nput a 01\ntake a 9\ndrop a\ntake a 1\ndrop a\nlist a\n",
+        "ok\nok 1\nrefused message\nrefused busy\nok\nok\nrefused queue\n",
+        2,
+    ),
+    (
+        "d run 1 8",
+        "queue a\nput a 0a\nput a 0b\nput a 0c\ntake a 2\nlist a\ntake a 1\nput a 0d\nlist a\n",
+        "ok\nok 1\nok 2\nok 3\nok\nok 2\n1 ready 0a\n3 ready 0c\nok\nok 4\nok 2\n3 ready 0c\n4 ready 0d\n",
+        3,
+    ),
+    (
+        "d run 1 4",
+        "queue a 2 8\nqueue b\nput a 01\nput b 01\nput a 02\n",
+        "ok\nok\nok 1\nok 1\nok 2\n",
+        2,
+    ),
+    (
+        "d run 1 4",
+        "queue a 0 4\nqueue a 1 5\nqueue a 1\ntake a 0\ntake a 01\n",
         "refused line\nrefused line\nrefused line\nrefused line\nrefused line\n",
         0,
     ),

@@ -2,13 +2,13 @@
 use Rattle.std.proofs.Common.{◌≡◌, inl, ℕ, zero, suc, Bool, true, false, ◌^◌, ◌<◌, List, [], ◌∷◌, ◌++◌, map, length, replicate, Option, Some, None, IfSome, IfOk, IfErr, Result, Ok, Err, refl, sym, ap, ◌∙◌, subst}
 use Rattle.std.specs.List.{AllByRecursion}
 use Rattle.qls_model.specs.declared.machine.PoolId.{PoolId}
-use Rattle.qls_model.specs.Machine.{MachineState, empty_state, queue_named}
+use Rattle.qls_model.specs.Machine.{MachineState, empty_state}
 use Rattle.qls_site.specs.Disk.{Disk, FileState, Image, IsQuiet, IdsRise, full, file_of}
 use Rattle.qls_site.specs.Content.{Content, Moment, OnlyLooks, Tells}
 use Rattle.qls_site.proofs.Told.{Tells-then, Tells-weaken}
-use Rattle.qls_meaning.specs.History.{History, AllUnmarked, newly_used, now, next}
-use Rattle.qls_meaning.specs.Journals.{Headed, in_use, is_in_use}
-use Rattle.qls_pool.specs.Files.{IdsDiffer, IsListingOf, IsPoolOf}
+use Rattle.qls_meaning.specs.History.{History, newly_used, now, next}
+use Rattle.qls_meaning.specs.Journals.{Headed, is_in_use}
+use Rattle.qls_pool.specs.Files.{IdsDiffer, IsListingOf, IsPoolOf, OnDisk}
 use Rattle.qls_pool.specs.Discipline.{TakesFile, TakesInOrder}
 use Rattle.qls_pool.proofs.Steps.{all_weaken, all_found}
 use Rattle.qls_scan.specs.Found.{IsFound, IsFirstDamage}
@@ -17,25 +17,24 @@ use Rattle.qls_scan.specs.declared.answers.ScanFault.{ScanFault}
 use Rattle.qls_scan.specs.declared.answers.ScanFault.TheVariants as scan
 use Rattle.qls_top.specs.declared.fault.Fault.{Fault}
 use Rattle.qls_top.specs.declared.fault.Fault.TheVariants as fault
-use Rattle.qls_top.specs.declared.session.Session.{Session}
 use Rattle.qls_command.specs.Lines.{commands}
-use Rattle.qls_top.specs.declared.queues.QueueLog.{QueueLog}
 use Rattle.qls_top.specs.Answers.{answers_text}
-use Rattle.qls_top.specs.Table.{IsTable, Fits, ReadsPair, log_named}
 use Rattle.qls_top.specs.Status.{IsOfLines, fault_of_scan}
 use Rattle.qls_pool.specs.Moments.{Chain, Passes, Arrives}
 use Rattle.qls_meaning.specs.History.{last_of}
+use Rattle.qls_queue.specs.Live.{LiveState}
+use Rattle.qls_queue.specs.Releasing.{IsQueueClean}
 use Rattle.qls_top.specs.Moments.{Quietly, AnswersQuietly, IsRunStep}
 use Rattle.qls_pool.specs.Serials.{TakesNone, DrawsTaken, serials_taken}
-use Rattle.qls_top.specs.Sessions.{HasLogs, FitsSession, IsCleanSession}
+use Rattle.qls_store.specs.Stores.{StoreState, state_of, Fits, IsClean}
 use Rattle.qls_top.specs.Run.{AllAre, StaysAsItWas, MayBegin, StartsOn, Starts, TakesFilesInOrder, IsRun, EndsClean, RunsToEnd, MeetsEnd, EndsSpent, EndsSpentIn, refuses_start}
-use Rattle.qls_top.proofs.Came.{none_came, none_same}
-use Rattle.qls_top.proofs.Chains.{Arrives-passes, Passes-of, since_of, since_is, since_then, unmarked_rest}
-use Rattle.qls_top.proofs.Drawing.{drawn_then, drawn_none}
+use Rattle.qls_pool.proofs.Came.{none_came, none_same}
+use Rattle.qls_pool.proofs.Moments.{Arrives-passes, Passes-of, since_of}
+use Rattle.qls_pool.proofs.Serials.{drawn_then, drawn_none}
+use Rattle.qls_top.proofs.Chains.{unmarked_parts}
 use Rattle.qls_top.proofs.Lines.{same_disk}
-use Rattle.qls_top.proofs.Fitting.{fits_empty}
 use Rattle.qls_top.proofs.InOrder.{in_order}
-use Rattle.qls_top.proofs.Starting.{differ_of, listing_of, may_begin, may_not, used_may_not, unused_of}
+use Rattle.qls_top.proofs.Starting.{differ_of, listing_of, may_begin, may_not, used_may_not, unused_of, fits_unused}
 
 -- ---- looks alone
 
@@ -153,39 +152,28 @@ lines_in_order found (Some x) (Some y) (Some z) rise is none h k =
 
 -- ---- a run to its end
 
-unmarked_again : (m : Moment) (n : ℕ) (ys : List Moment) → AllUnmarked m (replicate n m ++ ys) → AllUnmarked m ys
-unmarked_again m n ys h = subst (λ (k : Moment). AllUnmarked k ys) (last_again m n) (unmarked_rest m (replicate n m) ys h)
-
-run_from : (home : PoolId) (S : MachineState) (script : List ℕ) (x y z : Content) → Looked x y → Passes IsRunStep y z → IsRun home S script y z → IsRun home S script x z
-run_from home S script x y z h k run = record {
+run_from : (S : MachineState) (script : List ℕ) (x y z : Content) → Looked x y → Passes IsRunStep y z → IsRun S script y z → IsRun S script x z
+run_from S script x y z h k run = record {
   answered = run.answered ∙ ap (λ (m : Moment). m.answered ++ answers_text S (commands script)) h.now;
-  stored = λ quiet unmarked.
-      run.stored (subst (λ (m : Moment). IsQuiet m.disk) (sym h.now) quiet)
-      (subst (λ (ms : List Moment). AllUnmarked y.now ms) (sym (since_is IsRunStep y z k))
-      (subst (λ (m : Moment). AllUnmarked m k.since) (sym h.arrives.last)
-      (unmarked_rest x.now h.arrives.since k.since (subst (AllUnmarked x.now) (since_then IsRunStep IsRunStep x y z (Passes-of IsRunStep x y h.arrives) k) unmarked))));
+  stored = λ quiet unmarked. run.stored (subst (λ (m : Moment). IsQuiet m.disk) (sym h.now) quiet) (unmarked_parts IsRunStep IsRunStep x y z h.arrives k unmarked).1;
 }
 
-pub clean_nothing : (s : Session) (c : Content) → s.queues.items ≡ [] → IsCleanSession s c
-clean_nothing s c none = λ name. subst (λ (queues : List QueueLog). ReadsPair c.now.disk (log_named name queues) (queue_named name s.state.queues)) (sym none) tt
+pub clean_nothing : (s : StoreState) (d : Disk) → s.queues ≡ [] → IsClean s d
+clean_nothing s d none = subst (λ (qs : List LiveState). AllByRecursion (λ q. IsQueueClean q d) qs) (sym none) tt
 
 pub if_ok : (P Q : Type 0) (r : Result (Unit {0}) Fault) → IfOk r (λ _. P) → (P → Q) → IfOk r (λ _. Q)
 if_ok P Q (Ok x) h f = f h
 if_ok P Q (Err e) h f = tt
 
-pub run_done : (home : PoolId) (s : Session) (a b c : Option Content) (script rest : Option (List ℕ)) → s.home ≡ home → s.state ≡ empty_state → s.queues.items ≡ [] → Tells Looked a b → Tells (Passes IsRunStep) b c
+pub run_done : (home : PoolId) (s : StoreState) (a b c : Option Content) (script rest : Option (List ℕ)) → state_of s ≡ empty_state → s.queues ≡ [] → Tells Looked a b → Tells (Passes IsRunStep) b c
     → EndsClean s b c script rest → RunsToEnd home a c script rest
-run_done home s None b c script rest at state none h k ends = tt
-run_done home s (Some x) b None script rest at state none h k ends = tt
-run_done home s (Some x) b (Some z) None rest at state none h k ends = tt
-run_done home s (Some x) b (Some z) (Some script) None at state none h k ends = tt
-run_done home s (Some x) None (Some z) (Some script) (Some rest) at state none h k ends = absurd h
-run_done home s (Some x) (Some y) (Some z) (Some script) (Some rest) at state none h k ends =
-    let both = ends (clean_nothing s y none) in (
-      both.0,
-      run_from home empty_state script x y z h k
-          (subst (λ (p : PoolId). IsRun p empty_state script y z) at (subst (λ (S : MachineState). IsRun s.home S script y z) state both.1)),
-    )
+run_done home s None b c script rest state none h k ends = tt
+run_done home s (Some x) b None script rest state none h k ends = tt
+run_done home s (Some x) b (Some z) None rest state none h k ends = tt
+run_done home s (Some x) b (Some z) (Some script) None state none h k ends = tt
+run_done home s (Some x) None (Some z) (Some script) (Some rest) state none h k ends = absurd h
+run_done home s (Some x) (Some y) (Some z) (Some script) (Some rest) state none h k ends =
+    let both = ends (clean_nothing s y.now.disk none) in (both.0, run_from empty_state script x y z h k (subst (λ (S : MachineState). IsRun S script y z) state both.1))
 
 -- ---- a run that ends since no file is left
 
@@ -199,36 +187,34 @@ spent_from home S script x y z h e = record {
   meets = e.meets;
 }
 
-pub run_spent : (home : PoolId) (s : Session) (a b c : Option Content) (script : Option (List ℕ)) → s.home ≡ home → s.state ≡ empty_state → Tells Looked a b → EndsSpentIn s b c script → EndsSpent home a c script
-run_spent home s None b c script at state h e = tt
-run_spent home s (Some x) b None script at state h e = tt
-run_spent home s (Some x) b (Some z) None at state h e = tt
-run_spent home s (Some x) None (Some z) (Some script) at state h e = absurd h
-run_spent home s (Some x) (Some y) (Some z) (Some script) at state h e =
-    spent_from home empty_state script x y z h (subst (λ (p : PoolId). MeetsEnd p empty_state script y z) at (subst (λ (S : MachineState). MeetsEnd s.home S script y z) state e))
+pub run_spent : (home : PoolId) (s : StoreState) (a b c : Option Content) (script : Option (List ℕ)) → s.home ≡ home → state_of s ≡ empty_state → s.queues ≡ [] → Tells Looked a b → Tells (Passes IsRunStep) b c
+    → EndsSpentIn s b c script → EndsSpent home a c script
+run_spent home s None b c script at state none h k e = tt
+run_spent home s (Some x) b None script at state none h k e = tt
+run_spent home s (Some x) b (Some z) None at state none h k e = tt
+run_spent home s (Some x) None (Some z) (Some script) at state none h k e = absurd h
+run_spent home s (Some x) (Some y) (Some z) (Some script) at state none h k e = λ unmarked.
+    spent_from home empty_state script x y z h
+    (subst (λ (p : PoolId). MeetsEnd p empty_state script y z) at
+    (subst (λ (S : MachineState). MeetsEnd s.home S script y z) state (e (unmarked_parts IsRunStep IsRunStep x y z h.arrives k unmarked).1 (clean_nothing s y.now.disk none))))
 
--- ---- the session at the start
+-- ---- the store at the start
 
-fits_in : (s : Session) (found : Found) (x y : Content) → IdsRise (full x.now.disk) → IsFound (full x.now.disk) found → length found.journals ≡ 0 → found.greatest < 2 ^ 62 → Looked x y
-    → s.state ≡ empty_state → s.queues.items ≡ [] → s.pool.greatest ≡ found.greatest → ((d : Disk) → IsListingOf found.greatest found.empties d → IsPoolOf s.pool [] d) → FitsSession s y
-fits_in s found x y rise is none limit h state files greatest opened =
+fits_in : (s : StoreState) (found : Found) (x y : Content) → IdsRise (full x.now.disk) → IsFound (full x.now.disk) found → length found.journals ≡ 0 → found.greatest < 2 ^ 62 → Looked x y
+    → s.queues ≡ [] → s.pool.greatest ≡ found.greatest → ((d : Disk) → IsListingOf found.greatest found.empties d → IsPoolOf s.pool [] d) → Fits s y.now.disk
+fits_in s found x y rise is none limit h files greatest opened =
     let d : Disk = x.now.disk in
     let unused = unused_of (full d) found is none in
-    let at : y.now.disk ≡ d = ap (λ (m : Moment). m.disk) h.now in
-    subst (λ (fs : List QueueLog). Fits s.pool fs y.now.disk) (sym files)
-    (fits_empty s.pool y.now.disk
-    (subst (λ (e : Disk). IdsDiffer e × IsPoolOf s.pool [] e) (sym at) (differ_of (full d) rise, opened d (listing_of d found rise is unused)))
-    (subst (λ n. n < 2 ^ 62) (sym greatest) limit) (ap (λ (e : Disk). in_use (full e)) at ∙ unused))
+    let may = may_begin (full d) _ is.undamaged unused in
+    subst (λ (m : Moment). Fits s m.disk) (sym h.now)
+    (fits_unused s d (differ_of (full d) rise, opened d (listing_of d found rise is unused)) (subst (λ n. n < 2 ^ 62) (sym greatest) limit) may files)
 
-pub fits_started : (s : Session) (found : Found) (a b : Option Content) → IfSome a (λ c. IdsRise (full c.now.disk)) → IfSome a (λ c. IsFound (full c.now.disk) found) → length found.journals ≡ 0 → found.greatest < 2 ^ 62 → Tells Looked a b
-    → s.state ≡ empty_state → s.queues.items ≡ [] → s.pool.greatest ≡ found.greatest → ((d : Disk) → IsListingOf found.greatest found.empties d → IsPoolOf s.pool [] d) → IfSome b (FitsSession s)
-fits_started s found None None rise is none limit h state files greatest opened = tt
-fits_started s found None (Some y) rise is none limit h state files greatest opened = absurd h
-fits_started s found (Some x) None rise is none limit h state files greatest opened = absurd h
-fits_started s found (Some x) (Some y) rise is none limit h state files greatest opened = fits_in s found x y rise is none limit h state files greatest opened
-
-pub logs_started : (s : Session) → s.state ≡ empty_state → s.queues.items ≡ [] → HasLogs s
-logs_started s state queues = subst (λ (S : MachineState). IsTable s.home S s.queues.items) (sym state) (subst (λ (qs : List QueueLog). IsTable s.home empty_state qs) (sym queues) (λ name. tt))
+pub fits_started : (s : StoreState) (found : Found) (a b : Option Content) → IfSome a (λ c. IdsRise (full c.now.disk)) → IfSome a (λ c. IsFound (full c.now.disk) found) → length found.journals ≡ 0 → found.greatest < 2 ^ 62 → Tells Looked a b
+    → s.queues ≡ [] → s.pool.greatest ≡ found.greatest → ((d : Disk) → IsListingOf found.greatest found.empties d → IsPoolOf s.pool [] d) → IfSome b (OnDisk (Fits s))
+fits_started s found None None rise is none limit h files greatest opened = tt
+fits_started s found None (Some y) rise is none limit h files greatest opened = absurd h
+fits_started s found (Some x) None rise is none limit h files greatest opened = absurd h
+fits_started s found (Some x) (Some y) rise is none limit h files greatest opened = fits_in s found x y rise is none limit h files greatest opened
 
 -- ---- by the start
 

@@ -17,11 +17,11 @@ use Rattle.qls_pool.specs.Next.{TakesNext}
 use Rattle.qls_pool.proofs.Disks.{found_id}
 use Rattle.qls_pool.proofs.Steps.{all_weaken, all_both, all_found}
 use Rattle.qls_log.proofs.Splits.{all_by_number}
-use Rattle.qls_top.specs.Moments.{first_epochs, IsRunStep}
+use Rattle.qls_store.specs.Moments.{first_epochs}
+use Rattle.qls_top.specs.Moments.{IsRunStep}
 use Rattle.qls_top.specs.Run.{TakesFilesInOrder}
-use Rattle.qls_top.proofs.Chains.{since_is}
+use Rattle.qls_pool.proofs.Moments.{since_is}
 use Rattle.qls_top.proofs.Headers.{fields_read}
-use Rattle.qls_top.proofs.Journals.{found_all}
 
 -- ---- files in use are of the first epoch, and came into use in this run
 
@@ -31,6 +31,17 @@ IsFirst f = (headed (full_file f)).header.epoch ≡ 1
 
 abbrev AllFirst : Disk → Type 0
 AllFirst d = (id : ℕ) (f : FileState) → file_of id d ≡ Some f → is_in_use f.place ≡ true → IsFirst f
+
+found_first : (P : FileState → Type 0) (f g : FileState) (b : Bool) (rest : Option FileState) → P g → (rest ≡ Some f → P f) → cond b (Some g) rest ≡ Some f → P f
+found_first P f g true rest h more e = subst P (some_is e) h
+  where
+    some_is : Some g ≡ Some f → g ≡ f
+    some_is e = cc
+found_first P f g false rest h more e = more e
+
+pub found_all : (P : FileState → Type 0) (id : ℕ) (f : FileState) (d : Disk) → AllByRecursion P d → file_of id d ≡ Some f → P f
+found_all P id f [] h e = absurd (cc)
+found_all P id f (g ∷ d) h e = found_first P f g (g.id == id) (file_of id d) h.0 (found_all P id f d h.1) e
 
 not_both : (b : Bool) → b ≡ true → b ≡ false → ⊥
 not_both b e k = cc

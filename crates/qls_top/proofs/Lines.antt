@@ -7,16 +7,15 @@ use Rattle.qls_model.specs.declared.machine.Command.{Command}
 use Rattle.qls_model.specs.Machine.{MachineState}
 use Rattle.qls_site.specs.declared.site.SiteError.{SiteError}
 use Rattle.qls_site.specs.declared.site.SiteError.TheVariants.{Failed, Memory}
-use Rattle.qls_site.specs.Disk.{Disk, Image, IsQuiet, file_of, bytes_at, full}
+use Rattle.qls_site.specs.Disk.{Disk, FileState, Image, IsQuiet, file_of, bytes_at, full}
 use Rattle.qls_site.specs.Content.{Content, Moment, Acts, MayAct, Leads, Tells, on_answered}
 use Rattle.qls_site.proofs.Told.{Tells-then, Tells-weaken}
-use Rattle.qls_meaning.specs.Journals.{Headed}
-use Rattle.qls_meaning.specs.History.{AllUnmarked, newly_used}
-use Rattle.qls_pool.specs.Files.{IdsDiffer, IsWholePool, OnDisk}
+use Rattle.qls_meaning.specs.Journals.{Headed, is_in_use}
+use Rattle.qls_meaning.specs.History.{AllUnmarked, newly_used, is_file_in_use}
+use Rattle.qls_pool.specs.Files.{IdsDiffer, OnDisk}
 use Rattle.qls_pool.proofs.FirstTaken.{same_is_step}
 use Rattle.qls_command.specs.Lines.{lines, command_of, command_of_words, words, commands}
 use Rattle.qls_model.specs.declared.machine.Reply.{Reply}
-use Rattle.qls_top.specs.declared.session.Session.{Session}
 use Rattle.qls_top.specs.declared.fault.Fault.{Fault}
 use Rattle.qls_top.specs.declared.fault.Fault.TheVariants as fault
 use Rattle.qls_command.specs.Texts.{reply_text}
@@ -24,28 +23,35 @@ use Rattle.qls_top.specs.Answers.{answer_line, built_line, state_answered, answe
 use Rattle.qls_top.specs.Cutting.{Cutter, kept_of_line, CutsTold, Counted, script_limit}
 use Rattle.qls_pool.specs.Moments.{Arrives, Passes, EndsIn}
 use Rattle.qls_meaning.specs.History.{last_of}
-use Rattle.qls_top.specs.Moments.{AddsAnswer, AtReplies, first_epochs, Quietly, AnswersQuietly, StaysQuiet, IsRunStep, IsSilentStep}
+use Rattle.qls_pool.specs.Next.{Epochs, IsNextTaken, TakesNext}
+use Rattle.qls_top.specs.Moments.{AddsAnswer, AtReplies, Quietly, AnswersQuietly, IsRunStep, UnmarkedSince}
 use Rattle.qls_pool.specs.Serials.{TakesNone, serials_taken}
 use Rattle.qls_top.specs.Serials.{is_exact}
-use Rattle.qls_top.specs.Table.{LogStands, IsCleanTable, log_named}
-use Rattle.qls_top.specs.Ends.{StopsAtEnd, MeetsItsEnd}
-use Rattle.qls_top.specs.Sessions.{HasLogs, FitsSession, IsCleanSession, RunsCommand, RunsLine}
-use Rattle.qls_top.specs.Stored.{IsStored}
+use Rattle.qls_store.specs.Stores.{StoreState, state_of, IsStore, Fits, IsClean}
+use Rattle.qls_log.specs.Leaving.{WritesInOrder}
+use Rattle.qls_log.specs.Unwritten.{history_with}
+use Rattle.qls_store.specs.Moments.{IsStoreStep, StaysQuiet, StaysWritten, AreWritten, first_epochs}
+use Rattle.qls_top.specs.Held.{IsHeld}
+use Rattle.qls_top.specs.Running.{LineMeetsEnd, LineStops, RunsLine, RunsBuilt}
 use Rattle.qls_top.specs.Status.{status_of, IsOfLine}
-use Rattle.qls_top.specs.Run.{IsUnderWay, UnderWay, IsRun, EndsClean, StaysClean, MeetsEnd, SpentFrom, MayBegin, MayNotBegin, Starts, StartsOn, StartsWith, StaysAsItWas, refuses_status, refuses_start, status_of_result, is_exact_status, is_too_long, ReadsBytes, ReadBytes}
-use Rattle.qls_top.proofs.Came.{none_came, none_same, none_next}
-use Rattle.qls_top.proofs.Chains.{chain-append, chain_weaken, Arrives-none, Arrives-then, Arrives-acts, Arrives-passes, Passes-may, Passes-same, Passes-of, since_is, since_of, since_then, silent_arrives, silent_arrives_quietly, answers_nothing, unmarked_front, unmarked_rest}
-use Rattle.qls_top.proofs.Fitting.{stored}
+use Rattle.qls_top.specs.Run.{IsUnderWay, UnderWay, IsRun, EndsClean, StaysClean, MeetsEnd, EndsSpentIn, MayBegin, MayNotBegin, Starts, StartsOn, StartsWith, StaysAsItWas, refuses_status, refuses_start, status_of_result, is_exact_status, is_too_long, ReadsBytes, ReadBytes}
+use Rattle.qls_pool.proofs.Came.{NoneComes, WasInUse, none_came, none_same}
+use Rattle.qls_pool.proofs.Steps.{all_weaken}
+use Rattle.qls_pool.proofs.Moments.{chain-append, chain_weaken, Arrives-same, Arrives-then, Arrives-acts, Arrives-passes, Passes-may, Passes-same, Passes-of, since_is, since_of}
+use Rattle.qls_top.proofs.Chains.{silent_arrives, silent_arrives_quietly, answers_nothing, unmarked_front, unmarked_parts}
+use Rattle.qls_top.proofs.Holding.{MeansItsState}
 
 -- ---- the answer
 
-fits_same : (s : Session) (c e : Content) → e.now.disk ≡ c.now.disk → FitsSession s c → FitsSession s e
-fits_same s c e same f = record {
-  pool = subst (IsWholePool s.pool) (sym same) f.pool;
-  limit = f.limit;
-  logs = λ n. subst (λ (d : Disk). LogStands d (log_named n s.queues.items)) (sym same) (f.logs n);
-  own = λ id g h used. f.own id g (ap (file_of id) (sym same) ∙ h) used;
-}
+next_of_none : (epochs : Epochs) (m : Moment) (o : Option FileState) (g : FileState) → (is_in_use g.place ≡ true → is_file_in_use o ≡ true) → TakesNext epochs m o g
+next_of_none epochs m None g h = tt
+next_of_none epochs m (Some f) g h = λ was now. absurd (not_both (is_in_use f.place) (h now) was)
+  where
+    not_both : (b : Bool) → b ≡ true → b ≡ false → ⊥
+    not_both b e k = cc
+
+none_next : (epochs : Epochs) (m n : Moment) → NoneComes m n → IsNextTaken epochs m n
+none_next epochs m n h = all_weaken (WasInUse m) (λ g. TakesNext epochs m (file_of g.id m.disk) g) (λ g k. next_of_none epochs m (file_of g.id m.disk) g k) n.disk h
 
 -- a moment that has the disk of the one before
 pub same_disk : (m n : Moment) → IdsDiffer m.disk → n.disk ≡ m.disk → IsRunStep m n
@@ -129,57 +135,90 @@ answer_passes answer (Err f) mid new differ h = h
 
 -- ---- a line
 
-module _ (was : Session) (line : Option Command) (s : Session) (answer : Reply) where
-  answered_in : (old mid new : Content) → RunsCommand was (built_line line) s answer old mid → Acts (on_answered (reply_text answer)) mid new → RunsLine was line s old new
+-- what a command did, or a line that is none
+pub record Commanded (was : StoreState) (asked : Option Command) (s : StoreState) (old new : Content) : Type 0 where
+  pub arrives : Arrives IsStoreStep old new
+  pub quiet : StaysQuiet old new
+  pub had : IsClean was old.now.disk → LineMeetsEnd was.home (state_of was) asked old.now.disk → ⊥
+  pub fits : Fits s new.now.disk
+  pub clean : AllUnmarked old.now arrives.since → IsClean was old.now.disk → IsClean s new.now.disk
+
+commanded : (was : StoreState) (asked : Option Command) (s : StoreState) (old new : Content) → Fits was old.now.disk → RunsBuilt was asked s old new → Commanded was asked s old new
+commanded was None s old new fits r =
+    let disk : new.now.disk ≡ old.now.disk = ap (λ (c : Content). c.now.disk) r.1 in
+    record {
+      arrives = Arrives-same IsStoreStep old new r.1;
+      quiet = λ q. subst IsQuiet (sym disk) q;
+      had = λ clean meets. meets;
+      fits = subst (λ (t : StoreState). Fits t new.now.disk) (sym r.0) (subst (Fits was) (sym disk) fits);
+      clean = λ unmarked clean. subst (λ (t : StoreState). IsClean t new.now.disk) (sym r.0) (subst (IsClean was) (sym disk) clean);
+    }
+commanded was (Some c) s old new fits r = record { arrives = r.arrives; quiet = r.quiet; had = r.had; fits = r.fits; clean = r.clean }
+
+pub told_commanded : (was : StoreState) (asked : Option Command) (s : StoreState) (a b : Option Content) → IfSome a (OnDisk (Fits was)) → Tells (RunsBuilt was asked s) a b → Tells (Commanded was asked s) a b
+told_commanded was asked s None None fits r = tt
+told_commanded was asked s None (Some y) fits r = absurd r
+told_commanded was asked s (Some x) None fits r = absurd r
+told_commanded was asked s (Some x) (Some y) fits r = commanded was asked s x y fits r
+
+module _ (was : StoreState) (line : Option Command) (s : StoreState) (answer : Reply) (stepped : (state_of s, answer) ≡ answer_line (state_of was) line) where
+  answered_in : (old mid new : Content) → Commanded was (built_line line) s old mid → Acts (on_answered (reply_text answer)) mid new → RunsLine was line s old new
   answered_in old mid new r acts =
       let now = ap (λ (c : Content). c.now) acts in
       let disk : new.now.disk ≡ mid.now.disk = ap (λ (m : Moment). m.disk) now in
       let one : Arrives IsRunStep mid new =
       Arrives-acts IsRunStep (on_answered (reply_text answer)) mid new (same_disk mid.now (on_answered (reply_text answer) mid.now) r.fits.pool.0 refl) acts in
       record {
-        state = ap (λ p. p.0) r.stepped;
+        state = ap (λ p. p.0) stepped;
         arrives = Arrives-then IsRunStep old mid new (silent_arrives old mid r.arrives) one;
         quiet = λ q. subst IsQuiet (sym disk) (r.quiet q);
         last = chain-append (AtReplies (λ n. n ≡ new.now)) old.now r.arrives.since (on_answered (reply_text answer) mid.now ∷ [])
-            (chain_weaken IsSilentStep (AtReplies (λ n. n ≡ new.now)) (λ m n s. inl s.answered) old.now r.arrives.since r.arrives.chain) (inr (sym now), tt);
+            (chain_weaken IsStoreStep (AtReplies (λ n. n ≡ new.now)) (λ m n s. inl s.answered) old.now r.arrives.since r.arrives.chain) (inr (sym now), tt);
         had = r.had;
-        answered = ap (λ (m : Moment). m.answered) now ∙ ap (λ (a : List ℕ). a ++ reply_text answer) (answers_nothing old mid r.arrives) ∙ ap (λ p. old.now.answered ++ reply_text p.1) r.stepped;
-        fits = fits_same s mid new disk r.fits;
-        clean = λ unmarked clean.
-            subst (λ (d : Disk). IsCleanTable s.state s.queues.items d) (sym disk) (r.clean (unmarked_front old.now r.arrives.since (on_answered (reply_text answer) mid.now ∷ []) unmarked) clean);
+        answered = ap (λ (m : Moment). m.answered) now ∙ ap (λ (a : List ℕ). a ++ reply_text answer) (answers_nothing old mid r.arrives) ∙ ap (λ p. old.now.answered ++ reply_text p.1) stepped;
+        fits = subst (Fits s) (sym disk) r.fits;
+        clean = λ unmarked clean. subst (IsClean s) (sym disk) (r.clean (unmarked_front old.now r.arrives.since (on_answered (reply_text answer) mid.now ∷ []) unmarked) clean);
       }
 
   -- by the result of the answer
-  ended_in : (r : Result (Unit {0}) Fault) (old mid new : Content) → RunsCommand was (built_line line) s answer old mid
+  ended_in : (r : Result (Unit {0}) Fault) (old mid new : Content) → Commanded was (built_line line) s old mid
       → EndsIn (λ _. Acts (on_answered (reply_text answer))) (Passes IsRunStep) r mid new → EndsIn (λ _. RunsLine was line s) (Passes IsRunStep) r old new
   ended_in (Ok x) old mid new r h = answered_in old mid new r h
   ended_in (Err f) old mid new r h = Arrives-passes IsRunStep old mid new (silent_arrives old mid r.arrives) h
 
-  pub line_ended : (r : Result (Unit {0}) Fault) (old mid new : Option Content) → Tells (RunsCommand was (built_line line) s answer) old mid
+  pub line_ended : (r : Result (Unit {0}) Fault) (old mid new : Option Content) → Tells (Commanded was (built_line line) s) old mid
       → Tells (EndsIn (λ _. Acts (on_answered (reply_text answer))) (Passes IsRunStep) r) mid new → Tells (EndsIn (λ _. RunsLine was line s) (Passes IsRunStep) r) old new
   line_ended r old mid new a b =
-      Tells-then (RunsCommand was (built_line line) s answer) (EndsIn (λ _. Acts (on_answered (reply_text answer))) (Passes IsRunStep) r) (EndsIn (λ _. RunsLine was line s) (Passes IsRunStep) r) old mid new a b (ended_in r)
+      Tells-then (Commanded was (built_line line) s) (EndsIn (λ _. Acts (on_answered (reply_text answer))) (Passes IsRunStep) r) (EndsIn (λ _. RunsLine was line s) (Passes IsRunStep) r) old mid new a b (ended_in r)
 
-  quiet_in : (old mid new : Content) → RunsCommand was (built_line line) s answer old mid → AnswersQuietly mid new → AnswersQuietly old new
+module _ (was : StoreState) (asked : Option Command) (s : StoreState) where
+  quiet_in : (old mid new : Content) → Commanded was asked s old mid → AnswersQuietly mid new → AnswersQuietly old new
   quiet_in old mid new r h = λ q. Arrives-passes Quietly old mid new (silent_arrives_quietly old mid r.arrives) (h (r.quiet q))
 
-  pub line_quiet : (old mid new : Option Content) → Tells (RunsCommand was (built_line line) s answer) old mid → Tells AnswersQuietly mid new → Tells AnswersQuietly old new
-  line_quiet old mid new a b = Tells-then (RunsCommand was (built_line line) s answer) AnswersQuietly AnswersQuietly old mid new a b quiet_in
+  pub line_quiet : (old mid new : Option Content) → Tells (Commanded was asked s) old mid → Tells AnswersQuietly mid new → Tells AnswersQuietly old new
+  line_quiet old mid new a b = Tells-then (Commanded was asked s) AnswersQuietly AnswersQuietly old mid new a b quiet_in
 
   -- the chain of the command
-  pub command_arrives : (old mid : Option Content) → Tells (RunsCommand was (built_line line) s answer) old mid → Tells (Arrives IsSilentStep) old mid
-  command_arrives old mid h = Tells-weaken (RunsCommand was (built_line line) s answer) (Arrives IsSilentStep) old mid h (λ x y r. r.arrives)
+  pub command_arrives : (old mid : Option Content) → Tells (Commanded was asked s) old mid → Tells (Arrives IsStoreStep) old mid
+  command_arrives old mid h = Tells-weaken (Commanded was asked s) (Arrives IsStoreStep) old mid h (λ x y r. r.arrives)
 
--- a command leaves ids that differ
-pub differ_after : (was : Session) (command : Option Command) (s : Session) (answer : Reply) (old new : Option Content) → Tells (RunsCommand was command s answer) old new → IfSome new (OnDisk IdsDiffer)
-differ_after was command s answer None None r = tt
-differ_after was command s answer None (Some new) r = absurd r
-differ_after was command s answer (Some old) None r = absurd r
-differ_after was command s answer (Some old) (Some new) r = r.fits.pool.0
+  -- a command leaves ids that differ
+  pub differ_after : (old new : Option Content) → Tells (Commanded was asked s) old new → IfSome new (OnDisk IdsDiffer)
+  differ_after None None r = tt
+  differ_after None (Some new) r = absurd r
+  differ_after (Some old) None r = absurd r
+  differ_after (Some old) (Some new) r = r.fits.pool.0
 
 pub ends_passes : {X : Type 0} (done : X → Content → Content → Type 0) (r : Result X Fault) (a b : Option Content) → ((x : X) (c e : Content) → done x c e → Passes IsRunStep c e) → Tells (EndsIn done (Passes IsRunStep) r) a b → Tells (Passes IsRunStep) a b
 ends_passes done (Ok x) a b f h = Tells-weaken (done x) (Passes IsRunStep) a b h (f x)
 ends_passes done (Err e) a b f h = h
+
+-- a line that is none writes nothing
+pub none_written : (s : StoreState) (answer : Reply) (a : Option Content) → Tells (StaysWritten {X = StoreState × Reply} {E = Fault} (Ok (s, answer)) (λ r. r.0) s) a a
+none_written s answer None = tt
+none_written s answer (Some c) = λ areas h at written.
+    subst (λ (ms : List Moment). WritesInOrder areas h ms × AreWritten areas (history_with h ms) s) (sym (since_of IsStoreStep c c (Arrives-same IsStoreStep c c refl)))
+    (tt, subst (λ (since : List Moment). AreWritten areas (record h { since = since }) s) (sym (append-nil h.since)) written)
 
 -- ---- a line that was cut
 
@@ -216,11 +255,11 @@ pub cut_split : (script before rest line kept : List ℕ) (done : List (Option C
 cut_split script before rest line kept done split cut is =
     split ∙ ap (λ cs. done ++ cs) (ap (map command_of) cut ∙ ap (λ (c : Option Command). c ∷ commands rest) (sym (ap command_of is ∙ kept_command line)))
 
-pub step_in : (home : PoolId) (Z : MachineState) (script before rest line kept : List ℕ) (s t : Session) (old mid new : Content) → s.home ≡ home → t.home ≡ home → lines before ≡ line ∷ lines rest → kept ≡ kept_of_line line
+pub step_in : (home : PoolId) (Z : MachineState) (script before rest line kept : List ℕ) (s t : StoreState) (old mid new : Content) → s.home ≡ home → t.home ≡ home → lines before ≡ line ∷ lines rest → kept ≡ kept_of_line line
     → IsUnderWay home Z script before s old mid → RunsLine s (command_of kept) t mid new → IsUnderWay home Z script rest t old new
 step_in home Z script before rest line kept s t old mid new hs ht cut is u r =
     let c : Option Command = command_of kept in
-    let step : answer_line s.state c ≡ answer_line (state_answered Z u.done) c = ap (λ (S : MachineState). answer_line S c) u.state in
+    let step : answer_line (state_of s) c ≡ answer_line (state_answered Z u.done) c = ap (λ (S : MachineState). answer_line S c) u.state in
     record {
       done = u.done ++ c ∷ [];
       split = cut_split script before rest line kept u.done u.split cut is ∙ sym (append_assoc u.done (c ∷ []) (commands rest));
@@ -232,7 +271,7 @@ step_in home Z script before rest line kept s t old mid new hs ht cut is u r =
       state = r.state ∙ ap (λ p. p.0) step ∙ sym (state_append Z u.done (c ∷ []));
     }
 
-pub line_run : (home : PoolId) (Z : MachineState) (old mid new : Option Content) (script left rest : Option (List ℕ)) (a b : Cutter) (kept : List ℕ) (s t : Session) → s.home ≡ home → t.home ≡ home
+pub line_run : (home : PoolId) (Z : MachineState) (old mid new : Option Content) (script left rest : Option (List ℕ)) (a b : Cutter) (kept : List ℕ) (s t : StoreState) → s.home ≡ home → t.home ≡ home
     → UnderWay home Z old mid script a.waiting left s → CutsTold a left b rest kept true → Tells (RunsLine s (command_of kept) t) mid new → UnderWay home Z old new script b.waiting rest t
 line_run home Z None mid new script left rest a b kept s t hs ht u cut r = tt
 line_run home Z (Some old) mid None script left rest a b kept s t hs ht u cut r = tt
@@ -245,29 +284,40 @@ line_run home Z (Some old) (Some mid) (Some new) (Some script) (Some l) (Some m)
 
 -- ---- a run that ends since no file is left
 
-spent_in : (home : PoolId) (Z : MachineState) (script before rest line kept : List ℕ) (s : Session) (old mid new : Content) → s.home ≡ home → lines before ≡ line ∷ lines rest → kept ≡ kept_of_line line
-    → IsUnderWay home Z script before s old mid → StopsAtEnd s.home s.state (built_line (command_of kept)) mid new → MeetsEnd home Z script old new
-spent_in home Z script before rest line kept s old mid new hs cut is u stops = record {
-  done = u.done;
-  next = command_of kept;
-  rest = commands rest;
-  split = cut_split script before rest line kept u.done u.split cut is;
-  answered = answers_nothing mid new stops.arrives ∙ u.answered;
-  meets = subst (λ (p : PoolId). MeetsItsEnd p (state_answered Z u.done) (built_line (command_of kept)) new.now.disk) hs
-      (subst (λ (S : MachineState). MeetsItsEnd s.home S (built_line (command_of kept)) new.now.disk) u.state stops.meets);
-}
+module _ (first s : StoreState) (script before rest line kept : List ℕ) (hs : s.home ≡ first.home) (cut : lines before ≡ line ∷ lines rest) (is : kept ≡ kept_of_line line) where
+  ends_in : (old mid new : Content) → IsUnderWay first.home (state_of first) script before s old mid → Arrives IsStoreStep mid new → LineMeetsEnd s.home (state_of s) (built_line (command_of kept)) new.now.disk → MeetsEnd first.home (state_of first) script old new
+  ends_in old mid new u arrives meets = record {
+    done = u.done;
+    next = command_of kept;
+    rest = commands rest;
+    split = cut_split script before rest line kept u.done u.split cut is;
+    answered = answers_nothing mid new arrives ∙ u.answered;
+    meets = subst (λ (p : PoolId). LineMeetsEnd p (state_answered (state_of first) u.done) (built_line (command_of kept)) new.now.disk) hs
+        (subst (λ (S : MachineState). LineMeetsEnd s.home S (built_line (command_of kept)) new.now.disk) u.state meets);
+  }
 
-pub line_spent : (home : PoolId) (Z : MachineState) (old mid new : Option Content) (script left rest : Option (List ℕ)) (a b : Cutter) (kept : List ℕ) (s : Session) (limit : ℕ) → s.home ≡ home
-    → UnderWay home Z old mid script a.waiting left s → Counted limit script a.budget left (Ok true) → CutsTold a left b rest kept true
-    → Tells (StopsAtEnd s.home s.state (built_line (command_of kept))) mid new → SpentFrom home Z old new script
-line_spent home Z None mid new script left rest a b kept s limit hs u counted cut stops = tt
-line_spent home Z (Some old) mid None script left rest a b kept s limit hs u counted cut stops = tt
-line_spent home Z (Some old) mid (Some new) None left rest a b kept s limit hs u counted cut stops = tt
-line_spent home Z (Some old) None (Some new) (Some script) left rest a b kept s limit hs u counted cut stops = absurd stops
-line_spent home Z (Some old) (Some mid) (Some new) (Some script) None rest a b kept s limit hs u counted cut stops = absurd counted
-line_spent home Z (Some old) (Some mid) (Some new) (Some script) (Some l) None a b kept s limit hs u counted cut stops = absurd cut
-line_spent home Z (Some old) (Some mid) (Some new) (Some script) (Some l) (Some m) a b kept s limit hs u counted cut stops =
-    spent_in home Z script (a.waiting ++ l) (b.waiting ++ m) cut.0 kept s old mid new hs cut.1 cut.2 u stops
+  spent_in : (old mid new : Content) → IsUnderWay first.home (state_of first) script before s old mid → Arrives IsRunStep old mid → StaysClean first s old mid → LineStops s (built_line (command_of kept)) mid new
+      → UnmarkedSince old new → IsClean first old.now.disk → MeetsEnd first.home (state_of first) script old new
+  spent_in old mid new u went clean stops = λ unmarked begun.
+      let k = stopped (built_line (command_of kept)) mid new stops in
+      let parts = unmarked_parts IsRunStep IsStoreStep old mid new went (Passes-of IsStoreStep mid new k.0) unmarked in
+      ends_in old mid new u k.0 (k.1 parts.1 (clean parts.0 begun))
+    where
+      stopped : (asked : Option Command) (x y : Content) → LineStops s asked x y → Arrives IsStoreStep x y × (UnmarkedSince x y → IsClean s x.now.disk → LineMeetsEnd s.home (state_of s) asked y.now.disk)
+      stopped None x y stops = absurd stops
+      stopped (Some c) x y stops = (stops.arrives, stops.meets)
+
+pub line_spent : (first s : StoreState) (old mid new : Option Content) (script left rest : Option (List ℕ)) (a b : Cutter) (kept : List ℕ) (limit : ℕ) → s.home ≡ first.home
+    → UnderWay first.home (state_of first) old mid script a.waiting left s → Counted limit script a.budget left (Ok true) → CutsTold a left b rest kept true → Tells (Arrives IsRunStep) old mid → Tells (StaysClean first s) old mid
+    → Tells (LineStops s (built_line (command_of kept))) mid new → EndsSpentIn first old new script
+line_spent first s None mid new script left rest a b kept limit hs u counted cut went clean stops = tt
+line_spent first s (Some old) mid None script left rest a b kept limit hs u counted cut went clean stops = tt
+line_spent first s (Some old) mid (Some new) None left rest a b kept limit hs u counted cut went clean stops = tt
+line_spent first s (Some old) None (Some new) (Some script) left rest a b kept limit hs u counted cut went clean stops = absurd stops
+line_spent first s (Some old) (Some mid) (Some new) (Some script) None rest a b kept limit hs u counted cut went clean stops = absurd counted
+line_spent first s (Some old) (Some mid) (Some new) (Some script) (Some l) None a b kept limit hs u counted cut went clean stops = absurd cut
+line_spent first s (Some old) (Some mid) (Some new) (Some script) (Some l) (Some m) a b kept limit hs u counted cut went clean stops =
+    spent_in first s script (a.waiting ++ l) (b.waiting ++ m) cut.0 kept hs cut.1 cut.2 old mid new u went clean stops
 
 -- no more was read than the limit, where a line ended the run
 pub read_so_far : (f : Fault) (a b : Option (List ℕ)) (budget : ℕ) → IsOfLine f → Counted script_limit a budget b (Ok true) → ReadsBytes (is_too_long (Err f)) a b
@@ -290,53 +340,48 @@ nothing_left : (a b : List ℕ) → a ++ b ≡ [] → b ≡ []
 nothing_left [] b e = e
 nothing_left (x ∷ a) b e = absurd (cc)
 
-end_in : (home : PoolId) (Z : MachineState) (script : List ℕ) (rest : List ℕ) (was s : Session) (old new : Content) → s.home ≡ home → rest ≡ [] → IsUnderWay home Z script rest s old new → HasLogs s → FitsSession s new
-    → StaysQuiet old new → StaysClean was s old new → IsCleanSession was old → IsRun home Z script old new
-end_in home Z script rest was s old new h none u logs fits quiet clean begun =
+end_in : (home : PoolId) (Z : MachineState) (script : List ℕ) (rest : List ℕ) (was s : StoreState) (old new : Content) → MeansItsState → rest ≡ [] → IsUnderWay home Z script rest s old new → IsStore s → Fits s new.now.disk
+    → StaysQuiet old new → StaysClean was s old new → IsClean was old.now.disk → IsRun Z script old new
+end_in home Z script rest was s old new means none u store fits quiet clean begun =
     let all : commands script ≡ u.done = u.split ∙ ap (λ (r : List ℕ). u.done ++ commands r) none ∙ append-nil u.done in
     record {
       answered = u.answered ∙ ap (λ cs. old.now.answered ++ answers_text Z cs) (sym all);
-      stored = λ q unmarked.
-          subst (λ (S : MachineState). IsStored home S new.now.disk) (u.state ∙ ap (state_answered Z) (sym all))
-          (subst (λ (p : PoolId). IsStored p s.state new.now.disk) h (stored s.home s.state s.pool s.queues.items new.now.disk logs fits (clean unmarked begun) (quiet q)));
+      stored = λ q unmarked. subst (λ (S : MachineState). IsHeld S new.now.disk) (u.state ∙ ap (state_answered Z) (sym all)) (means s new.now.disk store fits (clean unmarked begun) (quiet q));
     }
 
-pub script_ended : (home : PoolId) (Z : MachineState) (old new : Option Content) (script left rest : Option (List ℕ)) (a b : Cutter) (kept : List ℕ) (was s : Session) → s.home ≡ home → was.home ≡ home → was.state ≡ Z
-    → UnderWay home Z old new script a.waiting left s → HasLogs s → IfSome new (FitsSession s) → Tells StaysQuiet old new → Tells (StaysClean was s) old new → CutsTold a left b rest kept false → EndsClean was old new script rest
-script_ended home Z None new script left rest a b kept was s h wh ws u logs fits quiet clean cut = tt
-script_ended home Z (Some old) None script left rest a b kept was s h wh ws u logs fits quiet clean cut = tt
-script_ended home Z (Some old) (Some new) None left rest a b kept was s h wh ws u logs fits quiet clean cut = tt
-script_ended home Z (Some old) (Some new) (Some script) left None a b kept was s h wh ws u logs fits quiet clean cut = tt
-script_ended home Z (Some old) (Some new) (Some script) None (Some m) a b kept was s h wh ws u logs fits quiet clean cut = absurd cut
-script_ended home Z (Some old) (Some new) (Some script) (Some l) (Some m) a b kept was s h wh ws u logs fits quiet clean cut = λ begun. (
-  nothing_left b.waiting m cut.1,
-  subst (λ (p : PoolId). IsRun p was.state script old new) (sym wh)
-      (subst (λ (S : MachineState). IsRun home S script old new) (sym ws) (end_in home Z script (a.waiting ++ l) was s old new h cut.0 u logs fits quiet clean begun)),
-)
+pub script_ended : (old new : Option Content) (script left rest : Option (List ℕ)) (a b : Cutter) (kept : List ℕ) (was s : StoreState) → MeansItsState
+    → UnderWay was.home (state_of was) old new script a.waiting left s → IsStore s → IfSome new (OnDisk (Fits s)) → Tells StaysQuiet old new → Tells (StaysClean was s) old new → CutsTold a left b rest kept false → EndsClean was old new script rest
+script_ended None new script left rest a b kept was s means u store fits quiet clean cut = tt
+script_ended (Some old) None script left rest a b kept was s means u store fits quiet clean cut = tt
+script_ended (Some old) (Some new) None left rest a b kept was s means u store fits quiet clean cut = tt
+script_ended (Some old) (Some new) (Some script) left None a b kept was s means u store fits quiet clean cut = tt
+script_ended (Some old) (Some new) (Some script) None (Some m) a b kept was s means u store fits quiet clean cut = absurd cut
+script_ended (Some old) (Some new) (Some script) (Some l) (Some m) a b kept was s means u store fits quiet clean cut =
+    λ begun. (nothing_left b.waiting m cut.1, end_in was.home (state_of was) script (a.waiting ++ l) was s old new means cut.0 u store fits quiet clean begun)
 
 -- ---- the start
 
 -- nothing of the script is run yet
-pub begun : (s : Session) (o : Option Content) (script : Option (List ℕ)) → UnderWay s.home s.state o o script [] script s
+pub begun : (s : StoreState) (o : Option Content) (script : Option (List ℕ)) → UnderWay s.home (state_of s) o o script [] script s
 begun s None script = tt
 begun s (Some c) None = tt
 begun s (Some c) (Some script) = record { done = []; split = refl; answered = sym (append-nil c.now.answered); state = refl }
 
 -- ---- one more line
 
-pub line_went : (was : Session) (line : Option Command) (s : Session) (a b c : Option Content) → Tells (Arrives IsRunStep) a b → Tells (RunsLine was line s) b c → Tells (Arrives IsRunStep) a c
+pub line_went : (was : StoreState) (line : Option Command) (s : StoreState) (a b c : Option Content) → Tells (Arrives IsRunStep) a b → Tells (RunsLine was line s) b c → Tells (Arrives IsRunStep) a c
 line_went was line s a b c g r = Tells-then (Arrives IsRunStep) (RunsLine was line s) (Arrives IsRunStep) a b c g r (λ x y z h k. Arrives-then IsRunStep x y z h k.arrives)
 
-pub line_passes : (was : Session) (line : Option Command) (s : Session) (b c : Option Content) → Tells (RunsLine was line s) b c → Tells (Passes IsRunStep) b c
+pub line_passes : (was : StoreState) (line : Option Command) (s : StoreState) (b c : Option Content) → Tells (RunsLine was line s) b c → Tells (Passes IsRunStep) b c
 line_passes was line s b c r = Tells-weaken (RunsLine was line s) (Passes IsRunStep) b c r (λ x y k. Passes-of IsRunStep x y k.arrives)
 
-pub line_fits : (was : Session) (line : Option Command) (s : Session) (b c : Option Content) → Tells (RunsLine was line s) b c → IfSome c (FitsSession s)
+pub line_fits : (was : StoreState) (line : Option Command) (s : StoreState) (b c : Option Content) → Tells (RunsLine was line s) b c → IfSome c (OnDisk (Fits s))
 line_fits was line s None None r = tt
 line_fits was line s None (Some c) r = absurd r
 line_fits was line s (Some b) None r = absurd r
 line_fits was line s (Some b) (Some c) r = r.fits
 
-pub line_rests : (was : Session) (line : Option Command) (s : Session) (a b c : Option Content) → Tells StaysQuiet a b → Tells (RunsLine was line s) b c → Tells StaysQuiet a c
+pub line_rests : (was : StoreState) (line : Option Command) (s : StoreState) (a b c : Option Content) → Tells StaysQuiet a b → Tells (RunsLine was line s) b c → Tells StaysQuiet a c
 line_rests was line s a b c g r = Tells-then StaysQuiet (RunsLine was line s) StaysQuiet a b c g r (λ x y z h k q. k.quiet (h q))
 
 -- the call arrived, and where nothing was pending it answered quietly
@@ -356,20 +401,18 @@ quieted_passes a b h = Tells-weaken Quieted AnswersQuietly a b h (λ x y k q. Pa
 arrives_from : (R Q : Moment → Moment → Type 0) (x y : Content) → Arrives R x y → Passes Q x y → Arrives Q x y
 arrives_from R Q x y h p = record { since = p.since; moments = p.moments; chain = p.chain; last = h.last ∙ ap (last_of x.now) (sym (since_of R x y h) ∙ since_is Q x y p) }
 
-quieted_in : (was s : Session) (line : Option Command) (x y z : Content) → Quieted x y → RunsLine was line s y z × AnswersQuietly y z → Quieted x z
+quieted_in : (was s : StoreState) (line : Option Command) (x y z : Content) → Quieted x y → RunsLine was line s y z × AnswersQuietly y z → Quieted x z
 quieted_in was s line x y z h k = (
   Arrives-then IsRunStep x y z h.0 k.0.arrives,
   λ q. k.0.quiet (h.1 q),
   λ q. Arrives-then Quietly x y z (h.2 q) (arrives_from IsRunStep Quietly y z k.0.arrives (k.1 (h.1 q))),
 )
 
--- where files were unmarked the session is clean still, line after line
-clean_in : (first was s : Session) (line : Option Command) (x y z : Content) → Arrives IsRunStep x y × StaysClean first was x y → RunsLine was line s y z → StaysClean first s x z
+-- where files were unmarked the store is clean still, line after line
+clean_in : (first was s : StoreState) (line : Option Command) (x y z : Content) → Arrives IsRunStep x y × StaysClean first was x y → RunsLine was line s y z → StaysClean first s x z
 clean_in first was s line x y z h k unmarked begun =
-    let split = since_then IsRunStep IsRunStep x y z (Passes-of IsRunStep x y h.0) (Passes-of IsRunStep y z k.arrives) in
-    let all : AllUnmarked x.now (h.0.since ++ k.arrives.since) = subst (AllUnmarked x.now) split unmarked in
-    k.clean (subst (λ (m : Moment). AllUnmarked m k.arrives.since) (sym h.0.last) (unmarked_rest x.now h.0.since k.arrives.since all))
-    (h.1 (subst (AllUnmarked x.now) (sym (since_of IsRunStep x y h.0)) (unmarked_front x.now h.0.since k.arrives.since all)) begun)
+    let parts = unmarked_parts IsRunStep IsRunStep x y z h.0 (Passes-of IsRunStep y z k.arrives) unmarked in
+    k.clean (subst (AllUnmarked y.now) (since_of IsRunStep y z k.arrives) parts.1) (h.1 parts.0 begun)
 
 both : (P Q : Content → Content → Type 0) (a b : Option Content) → Tells P a b → Tells Q a b → Tells (λ x y. P x y × Q x y) a b
 both P Q None None p q = tt
@@ -377,7 +420,7 @@ both P Q None (Some y) p q = absurd p
 both P Q (Some x) None p q = absurd p
 both P Q (Some x) (Some y) p q = (p, q)
 
-pub line_quieted : (was s : Session) (line : Option Command) (a b c : Option Content) → Tells Quieted a b → Tells (RunsLine was line s) b c → Tells AnswersQuietly b c → Tells Quieted a c
+pub line_quieted : (was s : StoreState) (line : Option Command) (a b c : Option Content) → Tells Quieted a b → Tells (RunsLine was line s) b c → Tells AnswersQuietly b c → Tells Quieted a c
 line_quieted was s line a b c h r q =
     Tells-then Quieted (λ x y. RunsLine was line s x y × AnswersQuietly x y) Quieted a b c h (both (RunsLine was line s) AnswersQuietly b c r q) (quieted_in was s line)
 
@@ -386,17 +429,17 @@ quieted_rests a b h = Tells-weaken Quieted StaysQuiet a b h (λ x y k. k.1)
 
 pub went_none : (a : Option Content) → Tells (Arrives IsRunStep) a a
 went_none None = tt
-went_none (Some c) = Arrives-none IsRunStep c
+went_none (Some c) = Arrives-same IsRunStep c c refl
 
 pub quieted_none : (a : Option Content) → Tells Quieted a a
 quieted_none None = tt
-quieted_none (Some c) = (Arrives-none IsRunStep c, (λ q. q), λ q. Arrives-none Quietly c)
+quieted_none (Some c) = (Arrives-same IsRunStep c c refl, (λ q. q), λ q. Arrives-same Quietly c c refl)
 
-pub clean_none : (s : Session) (a : Option Content) → Tells (StaysClean s s) a a
+pub clean_none : (s : StoreState) (a : Option Content) → Tells (StaysClean s s) a a
 clean_none s None = tt
 clean_none s (Some c) = λ unmarked clean. clean
 
-pub line_clean : (first was s : Session) (line : Option Command) (a b c : Option Content) → Tells (Arrives IsRunStep) a b → Tells (StaysClean first was) a b → Tells (RunsLine was line s) b c → Tells (StaysClean first s) a c
+pub line_clean : (first was s : StoreState) (line : Option Command) (a b c : Option Content) → Tells (Arrives IsRunStep) a b → Tells (StaysClean first was) a b → Tells (RunsLine was line s) b c → Tells (StaysClean first s) a c
 line_clean first was s line a b c g h r =
     Tells-then (λ x y. Arrives IsRunStep x y × StaysClean first was x y) (RunsLine was line s) (StaysClean first s) a b c (both (Arrives IsRunStep) (StaysClean first was) a b g h) r (clean_in first was s line)
 

@@ -8,32 +8,34 @@ use Rattle.qls_site.specs.Content.{Content, Moment, Tells, moments_since, on_ans
 use Rattle.qls_meaning.specs.History.{AllUnmarked}
 use Rattle.qls_command.specs.Lines.{lines, commands, command_of}
 use Rattle.qls_model.specs.declared.machine.Reply.{Reply}
-use Rattle.qls_top.specs.declared.session.Session.{Session}
 use Rattle.qls_command.specs.Texts.{reply_text}
 use Rattle.qls_top.specs.Answers.{answer_line, built_line, state_answered, answers_text}
 use Rattle.qls_top.specs.Cutting.{Cutter, kept_of_line, CutsTold, Counted}
 use Rattle.qls_pool.specs.Moments.{Chain, Passes, Arrives}
-use Rattle.qls_top.specs.Moments.{AddsAnswer, AtReplies, IsRunStep, IsSilentStep, UnmarkedSince}
-use Rattle.qls_top.specs.Sessions.{HasLogs, RunsCommand, RepliesLine, IsCleanSession}
-use Rattle.qls_top.specs.Stored.{IsStored}
+use Rattle.qls_store.specs.Stores.{StoreState, state_of, IsStore, IsClean}
+use Rattle.qls_store.specs.Moments.{IsStoreStep}
+use Rattle.qls_top.specs.Moments.{AddsAnswer, AtReplies, IsRunStep, UnmarkedSince}
+use Rattle.qls_top.specs.Held.{IsHeld}
+use Rattle.qls_top.specs.Running.{RepliesLine}
 use Rattle.qls_top.specs.Run.{IsUnderWay, UnderWay, StaysClean, IsReplied, RepliesIn, RepliesStored, RepliesClean}
-use Rattle.qls_top.proofs.Chains.{chain-append, chain_weaken, Arrives-none, Passes-of, since_is, since_of, since_then, answers_nothing, unmarked_front, unmarked_rest}
-use Rattle.qls_top.proofs.Fitting.{stored}
-use Rattle.qls_top.proofs.Lines.{Quieted, answers_append, state_append, cut_split}
+use Rattle.qls_pool.proofs.Moments.{chain-append, chain_weaken, Arrives-same, Passes-of, since_is, since_of, since_then}
+use Rattle.qls_top.proofs.Chains.{answers_nothing, unmarked_front, unmarked_parts}
+use Rattle.qls_top.proofs.Holding.{MeansItsState}
+use Rattle.qls_top.proofs.Lines.{Commanded, Quieted, answers_append, state_append, cut_split}
 use Rattle.qls_top.proofs.Beginning.{Looked, clean_nothing}
 
 -- ---- a line
 
 -- while a command is at work nothing is answered
-silent_replies : (P : Moment → Type 0) (m : Moment) (ms : List Moment) → Chain IsSilentStep m ms → Chain (AtReplies P) m ms
-silent_replies P m ms h = chain_weaken IsSilentStep (AtReplies P) (λ m n s. inl s.answered) m ms h
+silent_replies : (P : Moment → Type 0) (m : Moment) (ms : List Moment) → Chain IsStoreStep m ms → Chain (AtReplies P) m ms
+silent_replies P m ms h = chain_weaken IsStoreStep (AtReplies P) (λ m n s. inl s.answered) m ms h
 
-silent_in : (was : Session) (line : Option Command) (x y : Content) → Passes IsSilentStep x y → RepliesLine was line x y
+silent_in : (was : StoreState) (line : Option Command) (x y : Content) → Passes IsStoreStep x y → RepliesLine was line x y
 silent_in was line x y h = λ quiet unmarked clean.
-    subst (λ (ms : List Moment). Chain (AtReplies (λ n. (n.answered ≡ x.now.answered ++ reply_text (answer_line was.state line).1) × IsStored was.home (answer_line was.state line).0 n.disk)) x.now ms)
-    (sym (since_is IsSilentStep x y h)) (silent_replies _ x.now h.since h.chain)
+    subst (λ (ms : List Moment). Chain (AtReplies (λ n. (n.answered ≡ x.now.answered ++ reply_text (answer_line (state_of was) line).1) × IsHeld (answer_line (state_of was) line).0 n.disk)) x.now ms)
+    (sym (since_is IsStoreStep x y h)) (silent_replies _ x.now h.since h.chain)
 
-pub told_silent : (was : Session) (line : Option Command) (a b : Option Content) → Tells (Passes IsSilentStep) a b → Tells (RepliesLine was line) a b
+pub told_silent : (was : StoreState) (line : Option Command) (a b : Option Content) → Tells (Passes IsStoreStep) a b → Tells (RepliesLine was line) a b
 told_silent was line None None h = tt
 told_silent was line None (Some y) h = absurd h
 told_silent was line (Some x) None h = absurd h
@@ -45,27 +47,27 @@ answer_chain P bytes mid new (inl e) p = subst (λ (ms : List Moment). Chain (At
 answer_chain P bytes mid new (inr (inl e)) p = subst (λ (ms : List Moment). Chain (AtReplies P) mid.now ms) (sym e) (inr p, tt)
 answer_chain P bytes mid new (inr (inr e)) p = subst (λ (ms : List Moment). Chain (AtReplies P) mid.now ms) (sym e) (inl refl, (inr p, tt))
 
-module _ (was s : Session) (line : Option Command) (answer : Reply) (at_home : s.home ≡ was.home) (logs : HasLogs s) where
+module _ (was s : StoreState) (line : Option Command) (answer : Reply) (means : MeansItsState) (store : IsStore s) (stepped : (state_of s, answer) ≡ answer_line (state_of was) line) where
   abbrev after : MachineState × Reply
-  after = answer_line was.state line
+  after = answer_line (state_of was) line
 
-  replied_in : (old mid new : Content) → RunsCommand was (built_line line) s answer old mid → Passes IsRunStep mid new → AddsAnswer (reply_text answer) mid new → RepliesLine was line old new
+  abbrev Says : Content → Moment → Type 0
+  Says old n = (n.answered ≡ old.now.answered ++ reply_text after.1) × IsHeld after.0 n.disk
+
+  replied_in : (old mid new : Content) → Commanded was (built_line line) s old mid → Passes IsRunStep mid new → AddsAnswer (reply_text answer) mid new → RepliesLine was line old new
   replied_in old mid new r k adds = λ quiet unmarked clean.
       let xs : List Moment = r.arrives.since in
       let ys : List Moment = moments_since mid new in
-      let split : moments_since old new ≡ xs ++ ys = since_then IsSilentStep IsRunStep old mid new (Passes-of IsSilentStep old mid r.arrives) k ∙ ap (λ (ms : List Moment). xs ++ ms) (sym (since_is IsRunStep mid new k)) in
-      let stepped : (s.state, answer) ≡ after = r.stepped in
-      let begun : IsCleanSession s mid = r.clean (unmarked_front old.now xs ys (subst (AllUnmarked old.now) split unmarked)) clean in
-      let holds : IsStored s.home s.state mid.now.disk = stored s.home s.state s.pool s.queues.items mid.now.disk logs r.fits begun (r.quiet quiet) in
-      let here : IsStored was.home after.0 mid.now.disk = subst (λ (p : PoolId). IsStored p after.0 mid.now.disk) at_home (subst (λ (S : MachineState). IsStored s.home S mid.now.disk) (ap (λ p. p.0) stepped) holds) in
+      let split : moments_since old new ≡ xs ++ ys = since_then IsStoreStep IsRunStep old mid new (Passes-of IsStoreStep old mid r.arrives) k ∙ ap (λ (ms : List Moment). xs ++ ms) (sym (since_is IsRunStep mid new k)) in
+      let begun : IsClean s mid.now.disk = r.clean (unmarked_front old.now xs ys (subst (AllUnmarked old.now) split unmarked)) clean in
+      let here : IsHeld after.0 mid.now.disk = subst (λ (S : MachineState). IsHeld S mid.now.disk) (ap (λ p. p.0) stepped) (means s mid.now.disk store r.fits begun (r.quiet quiet)) in
       let said : mid.now.answered ++ reply_text answer ≡ old.now.answered ++ reply_text after.1 =
       ap (λ (b : List ℕ). b ++ reply_text answer) (answers_nothing old mid r.arrives) ∙ ap (λ p. old.now.answered ++ reply_text p.1) stepped in
-      subst (λ (ms : List Moment). Chain (AtReplies (λ n. (n.answered ≡ old.now.answered ++ reply_text after.1) × IsStored was.home after.0 n.disk)) old.now ms) (sym split)
-      (chain-append (AtReplies (λ n. (n.answered ≡ old.now.answered ++ reply_text after.1) × IsStored was.home after.0 n.disk)) old.now xs ys (silent_replies _ old.now xs r.arrives.chain)
-      (subst (λ (m : Moment). Chain (AtReplies (λ n. (n.answered ≡ old.now.answered ++ reply_text after.1) × IsStored was.home after.0 n.disk)) m ys) r.arrives.last
-      (answer_chain (λ n. (n.answered ≡ old.now.answered ++ reply_text after.1) × IsStored was.home after.0 n.disk) (reply_text answer) mid new adds (said, here))))
+      subst (λ (ms : List Moment). Chain (AtReplies (Says old)) old.now ms) (sym split)
+      (chain-append (AtReplies (Says old)) old.now xs ys (silent_replies (Says old) old.now xs r.arrives.chain)
+      (subst (λ (m : Moment). Chain (AtReplies (Says old)) m ys) r.arrives.last (answer_chain (Says old) (reply_text answer) mid new adds (said, here))))
 
-  pub told_replied : (a b c : Option Content) → Tells (RunsCommand was (built_line line) s answer) a b → Tells (Passes IsRunStep) b c → Tells (AddsAnswer (reply_text answer)) b c → Tells (RepliesLine was line) a c
+  pub told_replied : (a b c : Option Content) → Tells (Commanded was (built_line line) s) a b → Tells (Passes IsRunStep) b c → Tells (AddsAnswer (reply_text answer)) b c → Tells (RepliesLine was line) a c
   told_replied None None None r k adds = tt
   told_replied None None (Some z) r k adds = absurd k
   told_replied None (Some y) c r k adds = absurd r
@@ -75,19 +77,19 @@ module _ (was s : Session) (line : Option Command) (answer : Reply) (at_home : s
 
 -- ---- a run, line after line
 
-pub replies_none : (s : Session) (a : Option Content) (script : Option (List ℕ)) → RepliesClean s a a script
+pub replies_none : (s : StoreState) (a : Option Content) (script : Option (List ℕ)) → RepliesClean s a a script
 replies_none s None script = tt
 replies_none s (Some c) None = tt
 replies_none s (Some c) (Some script) = λ quiet unmarked clean.
-    subst (λ (ms : List Moment). Chain (AtReplies (IsReplied s.home s.state script c.now.answered)) c.now ms) (sym (since_of IsRunStep c c (Arrives-none IsRunStep c))) tt
+    subst (λ (ms : List Moment). Chain (AtReplies (IsReplied (state_of s) script c.now.answered)) c.now ms) (sym (since_of IsRunStep c c (Arrives-same IsRunStep c c refl))) tt
 
 -- what a line's answer says is what a run's reply says
-reply_of : (home : PoolId) (S : MachineState) (script before rest line kept : List ℕ) (was : Session) (old mid : Content) (n : Moment) → was.home ≡ home → lines before ≡ line ∷ lines rest → kept ≡ kept_of_line line
-    → IsUnderWay home S script before was old mid → n.answered ≡ mid.now.answered ++ reply_text (answer_line was.state (command_of kept)).1
-    → IsStored was.home (answer_line was.state (command_of kept)).0 n.disk → IsReplied home S script old.now.answered n
-reply_of home S script before rest line kept was old mid n at cut is u said holds =
+reply_of : (home : PoolId) (S : MachineState) (script before rest line kept : List ℕ) (was : StoreState) (old mid : Content) (n : Moment) → lines before ≡ line ∷ lines rest → kept ≡ kept_of_line line
+    → IsUnderWay home S script before was old mid → n.answered ≡ mid.now.answered ++ reply_text (answer_line (state_of was) (command_of kept)).1
+    → IsHeld (answer_line (state_of was) (command_of kept)).0 n.disk → IsReplied S script old.now.answered n
+reply_of home S script before rest line kept was old mid n cut is u said holds =
     let c : Option Command = command_of kept in
-    let step : answer_line was.state c ≡ answer_line (state_answered S u.done) c = ap (λ (T : MachineState). answer_line T c) u.state in
+    let step : answer_line (state_of was) c ≡ answer_line (state_answered S u.done) c = ap (λ (T : MachineState). answer_line T c) u.state in
     let text : List ℕ = reply_text (answer_line (state_answered S u.done) c).1 in
     record {
       done = u.done ++ c ∷ [];
@@ -98,47 +100,44 @@ reply_of home S script before rest line kept was old mid n at cut is u said hold
           ∙ append_assoc old.now.answered (answers_text S u.done) text
           ∙ ap (λ (a : List ℕ). old.now.answered ++ a) (ap (λ (a : List ℕ). answers_text S u.done ++ a) (sym (append-nil text)) ∙ sym (answers_append S u.done (c ∷ [])));
       stored =
-          subst (λ (T : MachineState). IsStored home T n.disk) (ap (λ p. p.0) step ∙ sym (state_append S u.done (c ∷ [])))
-          (subst (λ (p : PoolId). IsStored p (answer_line was.state c).0 n.disk) at holds);
+          subst (λ (T : MachineState). IsHeld T n.disk) (ap (λ p. p.0) step ∙ sym (state_append S u.done (c ∷ []))) holds;
     }
 
 pub at_replies : (P Q : Moment → Type 0) → ((n : Moment) → P n → Q n) → (m n : Moment) → AtReplies P m n → AtReplies Q m n
 at_replies P Q f m n (inl e) = inl e
 at_replies P Q f m n (inr p) = inr (f n p)
 
-module _ (first was : Session) (script before rest line kept : List ℕ) (at : was.home ≡ first.home) (cut : lines before ≡ line ∷ lines rest) (is : kept ≡ kept_of_line line) where
-  replies_in : (x y z : Content) → IsUnderWay first.home first.state script before was x y → Arrives IsRunStep x y → Quieted x y → StaysClean first was x y
-      → (IsQuiet x.now.disk → UnmarkedSince x y → IsCleanSession first x → RepliesIn first.home first.state script x y) → Passes IsRunStep y z → RepliesLine was (command_of kept) y z
-      → IsQuiet x.now.disk → UnmarkedSince x z → IsCleanSession first x → RepliesIn first.home first.state script x z
+module _ (first was : StoreState) (script before rest line kept : List ℕ) (cut : lines before ≡ line ∷ lines rest) (is : kept ≡ kept_of_line line) where
+  abbrev Said : Content → Moment → Type 0
+  Said y n = (n.answered ≡ y.now.answered ++ reply_text (answer_line (state_of was) (command_of kept)).1) × IsHeld (answer_line (state_of was) (command_of kept)).0 n.disk
+
+  replies_in : (x y z : Content) → IsUnderWay first.home (state_of first) script before was x y → Arrives IsRunStep x y → Quieted x y → StaysClean first was x y
+      → (IsQuiet x.now.disk → UnmarkedSince x y → IsClean first x.now.disk → RepliesIn first.home (state_of first) script x y) → Passes IsRunStep y z → RepliesLine was (command_of kept) y z
+      → IsQuiet x.now.disk → UnmarkedSince x z → IsClean first x.now.disk → RepliesIn first.home (state_of first) script x z
   replies_in x y z u h q clean so_far k l = λ quiet unmarked begun.
-      let P : Moment → Type 0 = IsReplied first.home first.state script x.now.answered in
+      let P : Moment → Type 0 = IsReplied (state_of first) script x.now.answered in
       let xs : List Moment = h.since in
       let ys : List Moment = k.since in
       let split : moments_since x z ≡ xs ++ ys = since_then IsRunStep IsRunStep x y z (Passes-of IsRunStep x y h) k in
-      let all : AllUnmarked x.now (xs ++ ys) = subst (AllUnmarked x.now) split unmarked in
-      let front : UnmarkedSince x y = subst (AllUnmarked x.now) (sym (since_of IsRunStep x y h)) (unmarked_front x.now xs ys all) in
-      let back : UnmarkedSince y z =
-      subst (AllUnmarked y.now) (sym (since_is IsRunStep y z k)) (subst (λ (m : Moment). AllUnmarked m ys) (sym h.last) (unmarked_rest x.now xs ys all)) in
-      let said = subst (λ (ms : List Moment). Chain (AtReplies (λ n. (n.answered ≡ y.now.answered ++ reply_text (answer_line was.state (command_of kept)).1) × IsStored was.home (answer_line was.state (command_of kept)).0 n.disk)) y.now ms)
-      (since_is IsRunStep y z k) (l (q.1 quiet) back (clean front begun)) in
+      let parts = unmarked_parts IsRunStep IsRunStep x y z h k unmarked in
+      let said = subst (λ (ms : List Moment). Chain (AtReplies (Said y)) y.now ms) (since_is IsRunStep y z k) (l (q.1 quiet) parts.1 (clean parts.0 begun)) in
       subst (λ (ms : List Moment). Chain (AtReplies P) x.now ms) (sym split)
-      (chain-append (AtReplies P) x.now xs ys (subst (λ (ms : List Moment). Chain (AtReplies P) x.now ms) (since_of IsRunStep x y h) (so_far quiet front begun))
+      (chain-append (AtReplies P) x.now xs ys (subst (λ (ms : List Moment). Chain (AtReplies P) x.now ms) (since_of IsRunStep x y h) (so_far quiet parts.0 begun))
       (subst (λ (m : Moment). Chain (AtReplies P) m ys) h.last
-      (chain_weaken (AtReplies (λ n. (n.answered ≡ y.now.answered ++ reply_text (answer_line was.state (command_of kept)).1) × IsStored was.home (answer_line was.state (command_of kept)).0 n.disk)) (AtReplies P)
-      (at_replies (λ n. (n.answered ≡ y.now.answered ++ reply_text (answer_line was.state (command_of kept)).1) × IsStored was.home (answer_line was.state (command_of kept)).0 n.disk) P
-      (λ n p. reply_of first.home first.state script before rest line kept was x y n at cut is u p.0 p.1)) y.now ys said)))
+      (chain_weaken (AtReplies (Said y)) (AtReplies P)
+      (at_replies (Said y) P (λ n p. reply_of first.home (state_of first) script before rest line kept was x y n cut is u p.0 p.1)) y.now ys said)))
 
-pub line_replies : (first was : Session) (old mid new : Option Content) (script left rest : Option (List ℕ)) (a b : Cutter) (kept : List ℕ) (limit : ℕ) → was.home ≡ first.home
-    → UnderWay first.home first.state old mid script a.waiting left was → Counted limit script a.budget left (Ok true) → CutsTold a left b rest kept true → Tells (Arrives IsRunStep) old mid → Tells Quieted old mid
+pub line_replies : (first was : StoreState) (old mid new : Option Content) (script left rest : Option (List ℕ)) (a b : Cutter) (kept : List ℕ) (limit : ℕ)
+    → UnderWay first.home (state_of first) old mid script a.waiting left was → Counted limit script a.budget left (Ok true) → CutsTold a left b rest kept true → Tells (Arrives IsRunStep) old mid → Tells Quieted old mid
     → Tells (StaysClean first was) old mid → RepliesClean first old mid script → Tells (Passes IsRunStep) mid new → Tells (RepliesLine was (command_of kept)) mid new → RepliesClean first old new script
-line_replies first was None mid new script left rest a b kept limit at u counted cut h q clean so_far k l = tt
-line_replies first was (Some x) mid None script left rest a b kept limit at u counted cut h q clean so_far k l = tt
-line_replies first was (Some x) mid (Some z) None left rest a b kept limit at u counted cut h q clean so_far k l = tt
-line_replies first was (Some x) None (Some z) (Some script) left rest a b kept limit at u counted cut h q clean so_far k l = absurd h
-line_replies first was (Some x) (Some y) (Some z) (Some script) None rest a b kept limit at u counted cut h q clean so_far k l = absurd counted
-line_replies first was (Some x) (Some y) (Some z) (Some script) (Some l) None a b kept limit at u counted cut h q clean so_far k r = absurd cut
-line_replies first was (Some x) (Some y) (Some z) (Some script) (Some l) (Some m) a b kept limit at u counted cut h q clean so_far k r =
-    replies_in first was script (a.waiting ++ l) (b.waiting ++ m) cut.0 kept at cut.1 cut.2 x y z u h q clean so_far k r
+line_replies first was None mid new script left rest a b kept limit u counted cut h q clean so_far k l = tt
+line_replies first was (Some x) mid None script left rest a b kept limit u counted cut h q clean so_far k l = tt
+line_replies first was (Some x) mid (Some z) None left rest a b kept limit u counted cut h q clean so_far k l = tt
+line_replies first was (Some x) None (Some z) (Some script) left rest a b kept limit u counted cut h q clean so_far k l = absurd h
+line_replies first was (Some x) (Some y) (Some z) (Some script) None rest a b kept limit u counted cut h q clean so_far k l = absurd counted
+line_replies first was (Some x) (Some y) (Some z) (Some script) (Some l) None a b kept limit u counted cut h q clean so_far k r = absurd cut
+line_replies first was (Some x) (Some y) (Some z) (Some script) (Some l) (Some m) a b kept limit u counted cut h q clean so_far k r =
+    replies_in first was script (a.waiting ++ l) (b.waiting ++ m) cut.0 kept cut.1 cut.2 x y z u h q clean so_far k r
 
 -- ---- a run from its first call
 
@@ -149,23 +148,20 @@ again_chain P m (suc n) = (inl refl, again_chain P m n)
 replies_from : (home : PoolId) (S : MachineState) (script : List ℕ) (x y z : Content) → Looked x y → Passes IsRunStep y z → (IsQuiet y.now.disk → UnmarkedSince y z → RepliesIn home S script y z)
     → IsQuiet x.now.disk → UnmarkedSince x z → RepliesIn home S script x z
 replies_from home S script x y z h k so_far = λ quiet unmarked.
-    let P : Moment → Type 0 = IsReplied home S script x.now.answered in
-    let xs : List Moment = h.quietly.since in
+    let P : Moment → Type 0 = IsReplied S script x.now.answered in
     let ys : List Moment = k.since in
     let split : moments_since x z ≡ h.arrives.since ++ ys = since_then IsRunStep IsRunStep x y z (Passes-of IsRunStep x y h.arrives) k in
-    let all : AllUnmarked x.now (h.arrives.since ++ ys) = subst (AllUnmarked x.now) split unmarked in
-    let back : UnmarkedSince y z =
-    subst (AllUnmarked y.now) (sym (since_is IsRunStep y z k)) (subst (λ (m : Moment). AllUnmarked m ys) (sym h.arrives.last) (unmarked_rest x.now h.arrives.since ys all)) in
+    let back : UnmarkedSince y z = (unmarked_parts IsRunStep IsRunStep x y z h.arrives k unmarked).1 in
     let said : Chain (AtReplies P) y.now ys =
     subst (λ (ms : List Moment). Chain (AtReplies P) y.now ms) (since_is IsRunStep y z k)
-    (subst (λ (a : List ℕ). Chain (AtReplies (IsReplied home S script a)) y.now (moments_since y z)) (ap (λ (m : Moment). m.answered) h.now) (so_far (subst (λ (m : Moment). IsQuiet m.disk) (sym h.now) quiet) back)) in
+    (subst (λ (a : List ℕ). Chain (AtReplies (IsReplied S script a)) y.now (moments_since y z)) (ap (λ (m : Moment). m.answered) h.now) (so_far (subst (λ (m : Moment). IsQuiet m.disk) (sym h.now) quiet) back)) in
     subst (λ (ms : List Moment). Chain (AtReplies P) x.now ms) (sym split)
     (chain-append (AtReplies P) x.now h.arrives.since ys (same_chain P x.now h.arrives.since h.stays_since) (subst (λ (m : Moment). Chain (AtReplies P) m ys) h.arrives.last said))
   where
     same_chain : (P : Moment → Type 0) (m : Moment) (ms : List Moment) → ((n : ℕ) × (ms ≡ replicate n m)) → Chain (AtReplies P) m ms
     same_chain P m ms (n, e) = subst (λ (ns : List Moment). Chain (AtReplies P) m ns) (sym e) (again_chain P m n)
 
-pub run_replies : (home : PoolId) (s : Session) (a b c : Option Content) (script : Option (List ℕ)) → s.home ≡ home → s.state ≡ empty_state → s.queues.items ≡ [] → Tells Looked a b → Tells (Passes IsRunStep) b c
+pub run_replies : (home : PoolId) (s : StoreState) (a b c : Option Content) (script : Option (List ℕ)) → s.home ≡ home → state_of s ≡ empty_state → s.queues ≡ [] → Tells Looked a b → Tells (Passes IsRunStep) b c
     → RepliesClean s b c script → RepliesStored home a c script
 run_replies home s None b c script at state none h k r = tt
 run_replies home s (Some x) b None script at state none h k r = tt
@@ -173,7 +169,7 @@ run_replies home s (Some x) b (Some z) None at state none h k r = tt
 run_replies home s (Some x) None (Some z) (Some script) at state none h k r = absurd h
 run_replies home s (Some x) (Some y) (Some z) (Some script) at state none h k r =
     replies_from home empty_state script x y z h k
-    (λ quiet unmarked. subst (λ (p : PoolId). RepliesIn p empty_state script y z) at (subst (λ (S : MachineState). RepliesIn s.home S script y z) state (r quiet unmarked (clean_nothing s y none))))
+    (λ quiet unmarked. subst (λ (p : PoolId). RepliesIn p empty_state script y z) at (subst (λ (S : MachineState). RepliesIn s.home S script y z) state (r quiet unmarked (clean_nothing s y.now.disk none))))
 
 -- only the scan was made
 pub looked_replies : (home : PoolId) (a b : Option Content) (script : Option (List ℕ)) → Tells Looked a b → RepliesStored home a b script
@@ -181,5 +177,5 @@ looked_replies home None b script h = tt
 looked_replies home (Some x) None script h = tt
 looked_replies home (Some x) (Some y) None h = tt
 looked_replies home (Some x) (Some y) (Some script) h = λ quiet unmarked.
-    subst (λ (ms : List Moment). Chain (AtReplies (IsReplied home empty_state script x.now.answered)) x.now ms) (sym (since_of IsRunStep x y h.arrives ∙ h.stays_since.1))
-    (again_chain (IsReplied home empty_state script x.now.answered) x.now h.stays_since.0)
+    subst (λ (ms : List Moment). Chain (AtReplies (IsReplied empty_state script x.now.answered)) x.now ms) (sym (since_of IsRunStep x y h.arrives ∙ h.stays_since.1))
+    (again_chain (IsReplied empty_state script x.now.answered) x.now h.stays_since.0)

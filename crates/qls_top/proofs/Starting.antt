@@ -1,7 +1,7 @@
 -- The start of a run: what the scan says of the site, and which sites can't be started on.
-use Rattle.std.proofs.Common.{◌≡◌, ℕ, Bool, true, false, cond, not, ◌==◌, ◌&&◌, ◌<◌, max, List, [], ◌∷◌, ◌++◌, map, length, Some, Result, Ok, Err, refl, sym, ap, ◌∙◌, subst, arith}
+use Rattle.std.proofs.Common.{◌≡◌, ℕ, Bool, true, false, cond, not, ◌==◌, ◌&&◌, ◌<◌, ◌^◌, max, nat_le, nat_lt, List, [], ◌∷◌, ◌++◌, map, length, Some, Result, Ok, Err, refl, sym, ap, ◌∙◌, subst, arith}
 use Rattle.std.specs.List.{filter, AllByRecursion}
-use Rattle.std.proofs.lemmas.Bool.{and_parts, eqb-true}
+use Rattle.std.proofs.lemmas.Bool.{and_parts, eqb-true, leb-true}
 use Rattle.std.proofs.lemmas.Bool.Decides.{nat_tests}
 use Rattle.qls_model.specs.Bytes.{same, comes_before}
 use Rattle.qls_filehdr.specs.declared.JournalKind.TheVariants.{Queue}
@@ -17,8 +17,11 @@ use Rattle.qls_filehdr.specs.declared.Rule.TheVariants as rule
 use Rattle.qls_meaning.specs.Journals.{Journal, Headed, headed, in_use, empties, is_in_use, is_queue, journal, journals, journals_of, queue_names, list_journals, with_name}
 use Rattle.qls_meaning.specs.Damage.{Damage, Checked, id_claim, pool_claim, header_claims, chain_claims, is_pool, scanned}
 use Rattle.qls_meaning.specs.Kept.{Differ, ids_of}
-use Rattle.qls_meaning.specs.Spent.{greatest_id}
-use Rattle.qls_pool.specs.Files.{IsListingOf, IsSized, FitsPlace, is_listed_empty}
+use Rattle.qls_meaning.specs.Spent.{greatest_id, is_pool_place}
+use Rattle.qls_filehdr.specs.Limits.{is_counter}
+use Rattle.qls_queue.specs.Live.{LiveState, QueueThere}
+use Rattle.qls_store.specs.Stores.{StoreState, Fits}
+use Rattle.qls_pool.specs.Files.{IsListingOf, IsSized, IsWholePool, FitsPlace, is_at, is_listed_empty}
 use Rattle.qls_scan.specs.Found.{IsFound, IsFirstDamage, listed_as, greatest, files_of}
 use Rattle.qls_scan.specs.declared.answers.Found.{Found}
 use Rattle.qls_scan.specs.declared.answers.ScanFault.{ScanFault}
@@ -195,3 +198,71 @@ listing_of d found rise is unused =
       };
       empties = ap (filter is_listed_empty) is.empties ∙ listed_empties d;
     }
+
+-- ---- a store without a queue fits it
+
+abbrev InLimits : Place → Type 0
+InLimits InUse = Unit {0}
+InLimits (Empty part kib) = (is_partition part ≡ true) × (is_kib kib ≡ true)
+
+pools_with : (f : FileState) (rest : List ImageFile) (d : Disk) (b : Bool) → is_in_use f.place ≡ b → each pool_claim (cond (not b) (full_file f ∷ rest) rest) ≡ Ok tt
+    → (each pool_claim rest ≡ Ok tt → AllByRecursion (λ f. InLimits f.place) d) → AllByRecursion (λ f. InLimits f.place) (f ∷ d)
+pools_with f rest d true k e later = (used_within f.place k, later e)
+  where
+    used_within : (p : Place) → is_in_use p ≡ true → InLimits p
+    used_within InUse h = tt
+    used_within (Empty part kib) h = absurd (cc)
+pools_with f rest d false k e later =
+    let both = each_first pool_claim (full_file f) rest e in
+    (within f.place (size_of f) (claim_true (is_pool (size_of f) f.place) rule.Pool f.id both.0), later both.1)
+  where
+    within : (place : Place) (size : ℕ) → is_pool size place ≡ true → InLimits place
+    within InUse size e = tt
+    within (Empty part kib) size e = let outer = and_parts (is_partition part && is_kib kib) (size == file_size kib) e in and_parts (is_partition part) (is_kib kib) outer.0
+
+pools_of : (d : Disk) → each pool_claim (empties (full d)) ≡ Ok tt → AllByRecursion (λ f. InLimits f.place) d
+pools_of [] e = tt
+pools_of (f ∷ d) e = pools_with f (empties (full d)) d (is_in_use f.place) refl e (pools_of d)
+
+found_within : (part kib id : ℕ) (d : Disk) → AllByRecursion (λ f. InLimits f.place) d → is_at part kib (file_of id d) ≡ true → (is_partition part ≡ true) × (is_kib kib ≡ true)
+found_within part kib id [] h e = absurd (cc)
+found_within part kib id (f ∷ d) h e =
+    elim (f.id == id) as (λ b. is_at part kib (cond b (Some f) (file_of id d)) ≡ true → (is_partition part ≡ true) × (is_kib kib ≡ true)) [
+      | true ↦ λ k. at_place f.place h.0 k
+      | false ↦ λ k. found_within part kib id d h.1 k
+    ] e
+  where
+    at_place : (p : Place) → InLimits p → is_pool_place part kib p ≡ true → (is_partition part ≡ true) × (is_kib kib ≡ true)
+    at_place InUse within e = absurd (cc)
+    at_place (Empty p k) within e =
+        let parts = and_parts (p == part) (k == kib) e in
+        (subst (λ n. is_partition n ≡ true) (eqb-true p part parts.0) within.0, subst (λ n. is_kib n ≡ true) (eqb-true k kib parts.1) within.1)
+
+ids_above : (d : Disk) → each id_claim (full d) ≡ Ok tt → AllByRecursion (λ f. 0 < f.id) d
+ids_above [] e = tt
+ids_above (f ∷ d) e =
+    let both = each_first id_claim (full_file f) (full d) e in
+    let counter = and_parts (nat_le 1 f.id) (nat_lt f.id (2 ^ 62)) (claim_true (is_counter f.id) rule.Id f.id both.0) in
+    (leb-true 1 f.id counter.0, ids_above d both.1)
+
+none_used : (d : Disk) (id : ℕ) (f : FileState) → in_use (full d) ≡ [] → file_of id d ≡ Some f → is_in_use f.place ≡ true → ⊥
+none_used [] id f none h used = absurd (cc)
+none_used (g ∷ d) id f none h used =
+    elim (is_in_use g.place) as (λ b. is_in_use g.place ≡ b → cond b (full_file g ∷ in_use (full d)) (in_use (full d)) ≡ [] → ⊥) [
+      | true ↦ λ k e. no_cons (full_file g) (in_use (full d)) e
+      | false ↦ λ k e. here (g.id == id) k (λ there. none_used d id f e there used) h
+    ] refl none
+  where
+    here : (b : Bool) → is_in_use g.place ≡ false → (file_of id d ≡ Some f → ⊥) → cond b (Some g) (file_of id d) ≡ Some f → ⊥
+    here true unused rest e = cc
+    here false unused rest e = rest e
+
+pub fits_unused : (s : StoreState) (d : Disk) → IsWholePool s.pool d → s.pool.greatest < 2 ^ 62 → MayBegin (full d) → s.queues ≡ [] → Fits s d
+fits_unused s d whole limit may none = record {
+  pool = whole;
+  limit = limit;
+  fit = λ part kib id has. found_within part kib id d (pools_of d may.pools) (and_parts (is_at part kib (file_of id d)) true (sym (whole.1.files part kib id) ∙ has)).0;
+  ids = ids_above d may.ids;
+  queues = subst (λ (qs : List LiveState). AllByRecursion (λ q. QueueThere q d) qs) (sym none) tt;
+  own = λ id f there used. absurd (none_used d id f may.unused there used);
+}

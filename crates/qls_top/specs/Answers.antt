@@ -8,21 +8,19 @@ use Rattle.qls_model.specs.declared.machine.Refusal.TheVariants as refusal
 use Rattle.qls_model.specs.Machine.{MachineState, step}
 use Rattle.qls_command.specs.Texts.{reply_text}
 
-abbrev pub if_plain : {A : Type 0} → Command → Option A → Option Command
-if_plain c None = Some c
-if_plain c (Some x) = None
-
--- `queue NAME` and `put NAME HEX`; every other line is refused as one that is none
+-- the lines on queues without a transaction; every other line is refused as one that is none
 abbrev pub built : Command → Option Command
-built (command.Queue name home) = if_plain (command.Queue name home) home
-built (command.Drop name) = None
-built (command.Put name body xid) = if_plain (command.Put name body xid) xid
-built (command.Take name number xid) = None
+built (command.Queue name home) = Some (command.Queue name home)
+built (command.Drop name) = Some (command.Drop name)
+built (command.Put name body None) = Some (command.Put name body None)
+built (command.Put name body (Some x)) = None
+built (command.Take name number None) = Some (command.Take name number None)
+built (command.Take name number (Some x)) = None
 built (command.Begin x) = None
 built (command.Prepare x) = None
 built (command.Commit x) = None
 built (command.Abort x) = None
-built (command.List name) = None
+built (command.List name) = Some (command.List name)
 built command.Doubt = None
 
 abbrev pub built_line : Option Command → Option Command

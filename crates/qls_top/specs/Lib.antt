@@ -2,12 +2,9 @@ pub mod Status
 pub mod Words
 pub mod Cutting
 pub mod Answers
-pub mod Stored
+pub mod Held
 pub mod Moments
 pub mod Serials
-pub mod Table
-pub mod Ends
 pub mod Causes
-pub mod Steps
-pub mod Sessions
+pub mod Running
 pub mod Run

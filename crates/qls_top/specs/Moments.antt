@@ -5,7 +5,8 @@ use Rattle.qls_site.specs.Content.{Moment, Content, moments_since, on_answered}
 use Rattle.qls_meaning.specs.History.{AllUnmarked}
 use Rattle.qls_pool.specs.Discipline.{IsPoolStep}
 use Rattle.qls_pool.specs.Moments.{Passes}
-use Rattle.qls_pool.specs.Next.{Epochs, IsNextTaken, HeadersStay}
+use Rattle.qls_pool.specs.Next.{IsNextTaken, HeadersStay}
+use Rattle.qls_store.specs.Moments.{first_epochs}
 use Rattle.qls_pool.specs.Files.{IdsDiffer}
 
 -- where bytes were answered nothing is pending
@@ -22,10 +23,6 @@ AddsAnswer bytes old new =
 abbrev pub AtReplies : (Moment → Type 0) → Moment → Moment → Type 0
 AtReplies P m n = (n.answered ≡ m.answered) ⊎ P n
 
--- the files of a store that this run began are of its first epoch
-abbrev pub first_epochs : Epochs
-first_epochs kind name = 1
-
 -- From a moment of a run to the next: a file is made, comes into use and is written as the pool has it, and is the next of its journal;
 -- headers of files in use stay, and no two files get one id
 pub record IsRunStep (m n : Moment) : Type 0 where
@@ -34,18 +31,9 @@ pub record IsRunStep (m n : Moment) : Type 0 where
   pub next : IsNextTaken first_epochs m n
   pub headers : HeadersStay m n
 
--- and while a command is at work nothing is answered
-pub record IsSilentStep (m n : Moment) : Type 0 where
-  pub answered : n.answered ≡ m.answered
-  pub step : IsRunStep m n
-
 -- where nothing was pending at the start, bytes are answered while nothing is
 abbrev pub AnswersQuietly : Content → Content → Type 0
 AnswersQuietly old new = IsQuiet old.now.disk → Passes Quietly old new
-
--- where nothing was pending, nothing is
-abbrev pub StaysQuiet : Content → Content → Type 0
-StaysQuiet old new = IsQuiet old.now.disk → IsQuiet new.now.disk
 
 -- every file that came into use since was unmarked
 abbrev pub UnmarkedSince : Content → Content → Type 0

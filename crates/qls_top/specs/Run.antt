@@ -16,25 +16,29 @@ use Rattle.qls_top.specs.declared.fault.Fault.{Fault}
 use Rattle.qls_top.specs.declared.fault.Fault.TheVariants as fault
 use Rattle.qls_top.specs.declared.words.Job.{Job}
 use Rattle.qls_top.specs.declared.words.Job.TheVariants.{Run}
-use Rattle.qls_top.specs.declared.session.Session.{Session}
-use Rattle.qls_top.specs.Answers.{built_line, state_answered, answers_text}
+use Rattle.qls_top.specs.Answers.{built_line, answer_line, state_answered, answers_text}
 use Rattle.qls_top.specs.Cutting.{script_limit}
-use Rattle.qls_top.specs.Stored.{IsStored}
-use Rattle.qls_top.specs.Ends.{MeetsItsEnd}
+use Rattle.qls_store.specs.Stores.{StoreState, state_of, IsClean}
+use Rattle.qls_store.specs.Homes.{Homes, no_homes, homes_of, is_accepted, TakesFromHome}
+use Rattle.qls_log.specs.Leaving.{LeavesInOrder, WritesInOrder}
+use Rattle.qls_top.specs.Held.{IsHeld}
 use Rattle.qls_top.specs.Moments.{AtReplies, UnmarkedSince}
-use Rattle.qls_top.specs.Sessions.{IsCleanSession}
+use Rattle.qls_top.specs.Running.{LineMeetsEnd, homes_by, AnswersInOrder}
+use Rattle.qls_meaning.specs.History.{History, now}
+use Rattle.qls_meaning.specs.Orderly.{IsOrderly}
+use Rattle.qls_store.specs.Moments.{AreWritten}
 
 -- ---- a script that was run to its end
 
 -- From the state S on every line is answered. Where nothing was pending at the start and the files that came into use were unmarked,
 -- the disk holds the machine's state after all lines
-pub record IsRun (home : PoolId) (S : MachineState) (script : List ℕ) (old new : Content) : Type 0 where
+pub record IsRun (S : MachineState) (script : List ℕ) (old new : Content) : Type 0 where
   pub answered : new.now.answered ≡ old.now.answered ++ answers_text S (commands script)
-  pub stored : IsQuiet old.now.disk → UnmarkedSince old new → IsStored home (state_answered S (commands script)) new.now.disk
+  pub stored : IsQuiet old.now.disk → UnmarkedSince old new → IsHeld (state_answered S (commands script)) new.now.disk
 
 -- where site and source tell: the source was read to its end, and all of the script was run
 abbrev pub EndsFrom : PoolId → MachineState → Option Content → Option Content → Option (List ℕ) → Option (List ℕ) → Type 0
-EndsFrom home S (Some old) (Some new) (Some script) (Some rest) = (rest ≡ []) × IsRun home S script old new
+EndsFrom home S (Some old) (Some new) (Some script) (Some rest) = (rest ≡ []) × IsRun S script old new
 EndsFrom home S None new script rest = Unit {0}
 EndsFrom home S (Some old) None script rest = Unit {0}
 EndsFrom home S (Some old) (Some new) None rest = Unit {0}
@@ -43,9 +47,9 @@ EndsFrom home S (Some old) (Some new) (Some script) None = Unit {0}
 abbrev pub RunsToEnd : PoolId → Option Content → Option Content → Option (List ℕ) → Option (List ℕ) → Type 0
 RunsToEnd home old new script rest = EndsFrom home empty_state old new script rest
 
--- a session's own script; its files' free areas were clean
-abbrev pub EndsClean : Session → Option Content → Option Content → Option (List ℕ) → Option (List ℕ) → Type 0
-EndsClean s (Some old) (Some new) (Some script) (Some rest) = IsCleanSession s old → (rest ≡ []) × IsRun s.home s.state script old new
+-- a store that was clean
+abbrev pub EndsClean : StoreState → Option Content → Option Content → Option (List ℕ) → Option (List ℕ) → Type 0
+EndsClean s (Some old) (Some new) (Some script) (Some rest) = IsClean s old.now.disk → (rest ≡ []) × IsRun (state_of s) script old new
 EndsClean s None new script rest = Unit {0}
 EndsClean s (Some old) None script rest = Unit {0}
 EndsClean s (Some old) (Some new) None rest = Unit {0}
@@ -59,22 +63,22 @@ ForJob (Some (Run home)) P = P home
 -- ---- a script in the middle
 
 -- some of its commands were run: these are their answers, and this is the machine's state after them
-pub record IsUnderWay (home : PoolId) (S : MachineState) (script rest : List ℕ) (s : Session) (old new : Content) : Type 0 where
+pub record IsUnderWay (home : PoolId) (S : MachineState) (script rest : List ℕ) (s : StoreState) (old new : Content) : Type 0 where
   pub done : List (Option Command)
   pub split : commands script ≡ done ++ commands rest
   pub answered : new.now.answered ≡ old.now.answered ++ answers_text S done
-  pub state : s.state ≡ state_answered S done
+  pub state : state_of s ≡ state_answered S done
 
-abbrev pub UnderWay : PoolId → MachineState → Option Content → Option Content → Option (List ℕ) → List ℕ → Option (List ℕ) → Session → Type 0
+abbrev pub UnderWay : PoolId → MachineState → Option Content → Option Content → Option (List ℕ) → List ℕ → Option (List ℕ) → StoreState → Type 0
 UnderWay home S (Some old) (Some new) (Some script) waiting (Some left) s = IsUnderWay home S script (waiting ++ left) s old new
 UnderWay home S None new script waiting left s = Unit {0}
 UnderWay home S (Some old) None script waiting left s = Unit {0}
 UnderWay home S (Some old) (Some new) None waiting left s = Unit {0}
 UnderWay home S (Some old) (Some new) (Some script) waiting None s = Unit {0}
 
--- where the files that came into use were unmarked, the session is as clean as it was
-abbrev pub StaysClean : Session → Session → Content → Content → Type 0
-StaysClean was s old new = UnmarkedSince old new → IsCleanSession was old → IsCleanSession s new
+-- where the files that came into use were unmarked, the store is as clean as it was
+abbrev pub StaysClean : StoreState → StoreState → Content → Content → Type 0
+StaysClean was s old new = UnmarkedSince old new → IsClean was old.now.disk → IsClean s new.now.disk
 
 -- ---- a run that ends since no file is left
 
@@ -85,10 +89,11 @@ pub record MeetsEnd (home : PoolId) (S : MachineState) (script : List ℕ) (old 
   pub rest : List (Option Command)
   pub split : commands script ≡ done ++ next ∷ rest
   pub answered : new.now.answered ≡ old.now.answered ++ answers_text S done
-  pub meets : MeetsItsEnd home (state_answered S done) (built_line next) new.now.disk
+  pub meets : LineMeetsEnd home (state_answered S done) (built_line next) new.now.disk
 
+-- where the files that came into use were unmarked
 abbrev pub SpentFrom : PoolId → MachineState → Option Content → Option Content → Option (List ℕ) → Type 0
-SpentFrom home S (Some old) (Some new) (Some script) = MeetsEnd home S script old new
+SpentFrom home S (Some old) (Some new) (Some script) = UnmarkedSince old new → MeetsEnd home S script old new
 SpentFrom home S None new script = Unit {0}
 SpentFrom home S (Some old) None script = Unit {0}
 SpentFrom home S (Some old) (Some new) None = Unit {0}
@@ -96,15 +101,19 @@ SpentFrom home S (Some old) (Some new) None = Unit {0}
 abbrev pub EndsSpent : PoolId → Option Content → Option Content → Option (List ℕ) → Type 0
 EndsSpent home old new script = SpentFrom home empty_state old new script
 
-abbrev pub EndsSpentIn : Session → Option Content → Option Content → Option (List ℕ) → Type 0
-EndsSpentIn s old new script = SpentFrom s.home s.state old new script
+-- a store that was clean
+abbrev pub EndsSpentIn : StoreState → Option Content → Option Content → Option (List ℕ) → Type 0
+EndsSpentIn s (Some old) (Some new) (Some script) = UnmarkedSince old new → IsClean s old.now.disk → MeetsEnd s.home (state_of s) script old new
+EndsSpentIn s None new script = Unit {0}
+EndsSpentIn s (Some old) None script = Unit {0}
+EndsSpentIn s (Some old) (Some new) None = Unit {0}
 
 -- ---- a run to its end that had each file that it needed
 
 -- the first of these commands, where there is one, doesn't meet its end on the disk
 abbrev pub NextIsFree : PoolId → MachineState → List (Option Command) → Disk → Type 0
 NextIsFree home S [] d = Unit {0}
-NextIsFree home S (c ∷ cs) d = MeetsItsEnd home S (built_line c) d → ⊥
+NextIsFree home S (c ∷ cs) d = LineMeetsEnd home S (built_line c) d → ⊥
 
 -- these are the answers to the first of the commands, and the one after them doesn't meet its end
 pub record GoesOn (home : PoolId) (S : MachineState) (script before : List ℕ) (n : Moment) : Type 0 where
@@ -119,8 +128,9 @@ pub record HadItsFiles (home : PoolId) (S : MachineState) (script : List ℕ) (o
   pub start : NextIsFree home S (commands script) old.now.disk
   pub replies : Chain (AtReplies (GoesOn home S script old.now.answered)) old.now (moments_since old new)
 
+-- where the files that came into use were unmarked
 abbrev pub HadFrom : PoolId → MachineState → Option Content → Option Content → Option (List ℕ) → Type 0
-HadFrom home S (Some old) (Some new) (Some script) = HadItsFiles home S script old new
+HadFrom home S (Some old) (Some new) (Some script) = UnmarkedSince old new → HadItsFiles home S script old new
 HadFrom home S None new script = Unit {0}
 HadFrom home S (Some old) None script = Unit {0}
 HadFrom home S (Some old) (Some new) None = Unit {0}
@@ -128,18 +138,25 @@ HadFrom home S (Some old) (Some new) None = Unit {0}
 abbrev pub HadFiles : PoolId → Option Content → Option Content → Option (List ℕ) → Type 0
 HadFiles home old new script = HadFrom home empty_state old new script
 
+-- a store that was clean
+abbrev pub HadClean : StoreState → Option Content → Option Content → Option (List ℕ) → Type 0
+HadClean s (Some old) (Some new) (Some script) = UnmarkedSince old new → IsClean s old.now.disk → HadItsFiles s.home (state_of s) script old new
+HadClean s None new script = Unit {0}
+HadClean s (Some old) None script = Unit {0}
+HadClean s (Some old) (Some new) None = Unit {0}
+
 -- ---- at each reply
 
 -- these are the answers to the first of the commands, and the disk holds the machine's state after them
-pub record IsReplied (home : PoolId) (S : MachineState) (script before : List ℕ) (n : Moment) : Type 0 where
+pub record IsReplied (S : MachineState) (script before : List ℕ) (n : Moment) : Type 0 where
   pub done : List (Option Command)
   pub rest : List (Option Command)
   pub split : commands script ≡ done ++ rest
   pub answered : n.answered ≡ before ++ answers_text S done
-  pub stored : IsStored home (state_answered S done) n.disk
+  pub stored : IsHeld (state_answered S done) n.disk
 
 abbrev pub RepliesIn : PoolId → MachineState → List ℕ → Content → Content → Type 0
-RepliesIn home S script old new = Chain (AtReplies (IsReplied home S script old.now.answered)) old.now (moments_since old new)
+RepliesIn home S script old new = Chain (AtReplies (IsReplied S script old.now.answered)) old.now (moments_since old new)
 
 -- Where nothing was pending at the start and the files that came into use were unmarked: at each moment at which bytes were answered,
 -- from the state S on
@@ -152,12 +169,75 @@ RepliesFrom home S (Some old) (Some new) None = Unit {0}
 abbrev pub RepliesStored : PoolId → Option Content → Option Content → Option (List ℕ) → Type 0
 RepliesStored home old new script = RepliesFrom home empty_state old new script
 
--- a session that was clean
-abbrev pub RepliesClean : Session → Option Content → Option Content → Option (List ℕ) → Type 0
-RepliesClean s (Some old) (Some new) (Some script) = IsQuiet old.now.disk → UnmarkedSince old new → IsCleanSession s old → RepliesIn s.home s.state script old new
+-- a store that was clean
+abbrev pub RepliesClean : StoreState → Option Content → Option Content → Option (List ℕ) → Type 0
+RepliesClean s (Some old) (Some new) (Some script) = IsQuiet old.now.disk → UnmarkedSince old new → IsClean s old.now.disk → RepliesIn s.home (state_of s) script old new
 RepliesClean s None new script = Unit {0}
 RepliesClean s (Some old) None script = Unit {0}
 RepliesClean s (Some old) (Some new) None = Unit {0}
+
+-- ---- from each moment to the next
+
+-- the pools of the queues after these commands
+abbrev pub homes_answered : PoolId → MachineState → List (Option Command) → Homes → Homes
+homes_answered home S [] homes = homes
+homes_answered home S (c ∷ cs) homes = homes_answered home (answer_line S c).0 cs (homes_by home S (built_line c) homes)
+
+-- the pools while the first of these commands is at work, if there is one
+abbrev pub homes_at_work : PoolId → MachineState → List (Option Command) → Homes → Homes
+homes_at_work home S [] homes = homes
+homes_at_work home S (c ∷ cs) homes = homes_by home S (built_line c) homes
+
+abbrev pub StaysIfRefused : MachineState → List (Option Command) → Moment → Moment → Type 0
+StaysIfRefused S [] m n = Unit {0}
+StaysIfRefused S (c ∷ cs) m n = is_accepted (answer_line S c).1 ≡ false → n.disk ≡ m.disk
+
+-- The first of the commands are answered at the first moment, and the next one is at work: a file that comes into use is of the pool that
+-- the command of its queue named, else of the default one, and no file changes for a command that is refused
+pub record IsAtWork (home : PoolId) (S : MachineState) (homes : Homes) (script before : List ℕ) (m n : Moment) : Type 0 where
+  pub done : List (Option Command)
+  pub rest : List (Option Command)
+  pub split : commands script ≡ done ++ rest
+  pub answered : m.answered ≡ before ++ answers_text S done
+  pub pools : TakesFromHome (homes_at_work home (state_answered S done) rest (homes_answered home S done homes)) m n
+  pub still : StaysIfRefused (state_answered S done) rest m n
+
+abbrev pub WorksFrom : PoolId → MachineState → Homes → Option Content → Option Content → Option (List ℕ) → Type 0
+WorksFrom home S homes (Some old) (Some new) (Some script) = Chain (IsAtWork home S homes script old.now.answered) old.now (moments_since old new)
+WorksFrom home S homes None new script = Unit {0}
+WorksFrom home S homes (Some old) None script = Unit {0}
+WorksFrom home S homes (Some old) (Some new) None = Unit {0}
+
+abbrev pub WorksOnCommands : PoolId → Option Content → Option Content → Option (List ℕ) → Type 0
+WorksOnCommands home old new script = WorksFrom home empty_state no_homes old new script
+
+abbrev pub WorksIn : StoreState → Option Content → Option Content → Option (List ℕ) → Type 0
+WorksIn s old new script = WorksFrom s.home (state_of s) (homes_of s) old new script
+
+-- ---- the discipline
+
+abbrev pub begun_at : Content → History
+begun_at c = record { start = c.now; since = [] }
+
+-- from the first moment on, writes meet only unwritten sectors of files in use, past their headers
+abbrev pub WritesFilesInOrder : Content → Content → Type 0
+WritesFilesInOrder old new = WritesInOrder [] (begun_at old) (moments_since old new)
+
+-- where nothing was pending at the start and the files that came into use were unmarked, all moments are orderly
+abbrev pub KeepsDiscipline : Content → Content → Type 0
+KeepsDiscipline old new = IsQuiet old.now.disk → UnmarkedSince old new → IsOrderly old.now (moments_since old new)
+
+-- the parts of it that a store that was clean keeps
+abbrev pub LeavesClean : StoreState → Content → Content → Type 0
+LeavesClean s old new = IsQuiet old.now.disk → UnmarkedSince old new → IsClean s old.now.disk → Chain LeavesInOrder old.now (moments_since old new)
+
+-- from each history in which its files were written
+abbrev pub AnswersClean : StoreState → Content → Content → Type 0
+AnswersClean s old new =
+    (h : History) → now h ≡ old.now → AreWritten [] h s → IsQuiet old.now.disk → UnmarkedSince old new → IsClean s old.now.disk → AnswersInOrder h (moments_since old new)
+
+abbrev pub WritesClean : StoreState → Content → Content → Type 0
+WritesClean s old new = (h : History) → now h ≡ old.now → AreWritten [] h s → WritesInOrder [] h (moments_since old new)
 
 -- the clause for the job that the words ask for, where they ask for one
 abbrev pub IfJob : Option Job → (PoolId → Type 0) → Type 0

@@ -3,8 +3,8 @@ use Rattle.std.specs.Prelude.{◌≡◌, ℕ, Bool, true, false}
 use Rattle.qls_site.specs.declared.site.SiteError.{SiteError}
 use Rattle.qls_site.specs.declared.site.SiteError.TheVariants as site
 use Rattle.qls_top.specs.declared.fault.Fault.{Fault}
-use Rattle.qls_log.specs.declared.fault.LogError.{LogError}
-use Rattle.qls_log.specs.declared.fault.LogError.TheVariants as log
+use Rattle.qls_store.specs.declared.cause.Cause.{Cause}
+use Rattle.qls_store.specs.declared.cause.Cause.TheVariants as cause
 use Rattle.qls_scan.specs.declared.answers.ScanFault.{ScanFault}
 use Rattle.qls_scan.specs.declared.answers.ScanFault.TheVariants as scan
 use Rattle.qls_top.specs.declared.fault.Fault.TheVariants.{Source, Site, Memory, TooLong, Draw, Spent, NotEmpty}
@@ -22,11 +22,11 @@ abbrev pub fault_of_site : SiteError → Fault
 fault_of_site site.Failed = Site
 fault_of_site site.Memory = Memory
 
-abbrev pub fault_of_log : LogError → Fault
-fault_of_log log.Failed = Site
-fault_of_log log.Draw = Draw
-fault_of_log log.Spent = Spent
-fault_of_log log.Memory = Memory
+abbrev pub fault_of_cause : Cause → Fault
+fault_of_cause cause.Failed = Site
+fault_of_cause cause.Draw = Draw
+fault_of_cause cause.Spent = Spent
+fault_of_cause cause.Memory = Memory
 
 -- a site that is damaged isn't one to start on
 abbrev pub fault_of_scan : ScanFault → Fault

@@ -1,8 +1,8 @@
 //! What ends a run before its script is read to the end.
-use qls_log::LogError;
 use qls_model::NoMemory;
 use qls_scan::ScanFault;
 use qls_site::{DrawError, SiteError, SourceError};
+use qls_store::Cause;
 use std::alloc::{AllocError, AllocFailed};
 
 /// What ended a run; each has a status of its own.
@@ -113,18 +113,18 @@ impl From<SiteError> for Fault {
     }
 }
 
-impl From<LogError> for Fault {
+impl From<Cause> for Fault {
     ghost use Rattle.std.specs.Prelude.{◌≡◌};
-    ghost use Rattle.qls_top.specs.Status.{fault_of_log};
+    ghost use Rattle.qls_top.specs.Status.{fault_of_cause};
 
-    ghost from_gives = { λ error fault. fault ≡ fault_of_log error };
+    ghost from_gives = { λ cause fault. fault ≡ fault_of_cause cause };
 
-    fn from(error: LogError) -> Fault {
-        match error {
-            LogError::Failed => Fault::Site,
-            LogError::Draw => Fault::Draw,
-            LogError::Spent => Fault::Spent,
-            LogError::Memory => Fault::Memory,
+    fn from(cause: Cause) -> Fault {
+        match cause {
+            Cause::Failed => Fault::Site,
+            Cause::Draw => Fault::Draw,
+            Cause::Spent => Fault::Spent,
+            Cause::Memory => Fault::Memory,
         }
     }
 }

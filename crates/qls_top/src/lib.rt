@@ -2,9 +2,8 @@
 #![tactic(auto)]
 
 mod fault;
-mod queues;
+mod line;
 mod script;
-mod session;
 mod words;
 
 ghost use Rattle.std.specs.Prelude.{◌≡◌, ◌↔◌, ◌≤◌, map, None, Ok, Err, IfOk, IfErr, IfSome, true, ◌==◌};
@@ -16,17 +15,20 @@ ghost use Rattle.qls_pool.specs.Moments.{Passes};
 ghost use Rattle.qls_pool.specs.Serials.{DrawsTaken};
 ghost use Rattle.qls_top.specs.Moments.{AnswersQuietly, IsRunStep};
 ghost use Rattle.qls_top.specs.Serials.{is_exact};
-ghost use Rattle.qls_top.specs.Run.{ForJob, RunsToEnd, ReadsBytes, Starts, is_too_long, is_status, StartsWith, MayNotBegin, EndsClean, RepliesStored, RepliesClean, HadFiles, HadFrom, IfJob, EndsSpent, EndsSpentIn, TakesFilesInOrder, is_exact_status};
-ghost use Rattle.qls_top.specs.Sessions.{HasLogs, FitsSession};
+ghost use Rattle.qls_top.specs.Run.{ForJob, RunsToEnd, ReadsBytes, Starts, is_too_long, is_status, StartsWith, MayNotBegin, EndsClean, RepliesStored, RepliesClean, HadFiles, HadClean, IfJob, EndsSpent, EndsSpentIn, TakesFilesInOrder, WritesFilesInOrder, KeepsDiscipline, LeavesClean, AnswersClean, WritesClean, WorksOnCommands, WorksIn, is_exact_status};
+ghost use Rattle.qls_pool.specs.Files.{OnDisk};
+ghost use Rattle.qls_store.specs.Stores.{Fits};
 ghost use Rattle.qls_top.specs.Status.{IsOfLines};
 
 pub use fault::Fault;
+use line::run_line;
 use qls_model::PoolId;
 use qls_pool::Pool;
 use qls_scan::scan;
 use qls_site::{Serials, Site, Source};
+use qls_store::Store;
+use qls_store::laws::clean_store_is_its_meaning;
 use script::Script;
-use session::Session;
 use std::alloc::Global;
 pub use words::{Job, parse_words, status_line};
 
@@ -64,6 +66,9 @@ pub fn run<R: Source, S: Site, N: Serials>(
     ensures quiet { Tells AnswersQuietly (S.told site.old) (S.told site.new) }
     ensures replied { IfJob (job_of (map string_bytes words.now)) (λ home. RepliesStored home (S.told site.old) (S.told site.new) (R.left source.old)) }
     ensures orderly { Tells TakesFilesInOrder (S.told site.old) (S.told site.new) }
+    ensures writes { Tells WritesFilesInOrder (S.told site.old) (S.told site.new) }
+    ensures discipline { Tells KeepsDiscipline (S.told site.old) (S.told site.new) }
+    ensures commands { IfJob (job_of (map string_bytes words.now)) (λ home. WorksOnCommands home (S.told site.old) (S.told site.new) (R.left source.old)) }
     ensures drawn { DrawsTaken (is_exact_status result) (S.told site.old) (S.told site.new) (N.drawn serials.old) (N.drawn serials.new) }
     ensures spent { result ≡ 9 → ForJob (job_of (map string_bytes words.now)) (λ home. EndsSpent home (S.told site.old) (S.told site.new) (R.left source.old)) }
     ensures source { result ≡ 4 → Rose (R.faults source.old) (R.faults source.new) }
@@ -94,6 +99,9 @@ fn run_script<R: Source, S: Site, N: Serials>(
     ensures done { IfOk result (λ _. RunsToEnd home (S.told site.old) (S.told site.new) (R.left source.old) (R.left source.new)) }
     ensures had { IfOk result (λ _. HadFiles home (S.told site.old) (S.told site.new) (R.left source.old)) }
     ensures orderly { Tells TakesFilesInOrder (S.told site.old) (S.told site.new) }
+    ensures writes { Tells WritesFilesInOrder (S.told site.old) (S.told site.new) }
+    ensures discipline { Tells KeepsDiscipline (S.told site.old) (S.told site.new) }
+    ensures commands { WorksOnCommands home (S.told site.old) (S.told site.new) (R.left source.old) }
     ensures quiet { Tells AnswersQuietly (S.told site.old) (S.told site.new) }
     ensures replied { RepliesStored home (S.told site.old) (S.told site.new) (R.left source.old) }
     ensures drawn { DrawsTaken (is_exact result) (S.told site.old) (S.told site.new) (N.drawn serials.old) (N.drawn serials.new) }
@@ -109,28 +117,30 @@ fn run_script<R: Source, S: Site, N: Serials>(
         return Err(Fault::NotEmpty);
     }
     let pool = Pool::open(alloc, found.greatest, &found.empties)?;
-    let mut session = Session::new(alloc, home, pool);
-    run_lines(alloc, &mut session, source, site, serials)
+    let store = Store::new(alloc, home, pool);
+    run_lines(alloc, store, source, site, serials)
 }
 
-/// Runs the lines of the source in a session that fits the site.
+/// Runs the lines of the source on a store that fits the site.
 fn run_lines<R: Source, S: Site, N: Serials>(
     alloc: Global,
-    session: &mut Session,
+    store: Store,
     source: &mut R,
     site: &mut S,
     serials: &mut N,
 ) -> Result<(), Fault>
-    requires pool { (is_partition session.old.home.part ≡ true) × (is_kib session.old.home.kib ≡ true) }
-    requires logs { HasLogs session.old }
-    requires fits { IfSome (S.told site.old) (FitsSession session.old) }
-    ensures done { IfOk result (λ _. EndsClean session.old (S.told site.old) (S.told site.new) (R.left source.old) (R.left source.new)) }
-    ensures had { IfOk result (λ _. HadFrom session.old.home session.old.state (S.told site.old) (S.told site.new) (R.left source.old)) }
+    requires fits { IfSome (S.told site.old) (OnDisk (Fits store)) }
+    ensures done { IfOk result (λ _. EndsClean store (S.told site.old) (S.told site.new) (R.left source.old) (R.left source.new)) }
+    ensures had { IfOk result (λ _. HadClean store (S.told site.old) (S.told site.new) (R.left source.old)) }
+    ensures writes { Tells (WritesClean store) (S.told site.old) (S.told site.new) }
+    ensures leaves { Tells (LeavesClean store) (S.told site.old) (S.told site.new) }
+    ensures answers { Tells (AnswersClean store) (S.told site.old) (S.told site.new) }
+    ensures commands { WorksIn store (S.told site.old) (S.told site.new) (R.left source.old) }
     ensures went { Tells (Passes IsRunStep) (S.told site.old) (S.told site.new) }
     ensures quiet { Tells AnswersQuietly (S.told site.old) (S.told site.new) }
-    ensures replied { RepliesClean session.old (S.told site.old) (S.told site.new) (R.left source.old) }
+    ensures replied { RepliesClean store (S.told site.old) (S.told site.new) (R.left source.old) }
     ensures drawn { DrawsTaken (is_exact result) (S.told site.old) (S.told site.new) (N.drawn serials.old) (N.drawn serials.new) }
-    ensures spent { result ≡ Err Fault.Spent → EndsSpentIn session.old (S.told site.old) (S.told site.new) (R.left source.old) }
+    ensures spent { result ≡ Err Fault.Spent → EndsSpentIn store (S.told site.old) (S.told site.new) (R.left source.old) }
     ensures source { result ≡ Err Fault.Source → Rose (R.faults source.old) (R.faults source.new) }
     ensures site { result ≡ Err Fault.Site → Rose (S.faults site.old) (S.faults site.new) }
     ensures serials { result ≡ Err Fault.Draw → Rose (N.faults serials.old) (N.faults serials.new) }
@@ -138,10 +148,12 @@ fn run_lines<R: Source, S: Site, N: Serials>(
     ensures too_long { ReadsBytes (is_too_long result) (R.left source.old) (R.left source.new) }
     ensures only { IfErr result IsOfLines }
 {
+    clean_store_is_its_meaning();
     let mut script = Script::new(alloc)?;
     let mut line = Vec::new(alloc);
+    let mut store = store;
     while script.next_line(source, &mut line)? {
-        session.run_line(&line, site, serials)?;
+        store = run_line(alloc, store, &line, site, serials)?;
     }
     Ok(())
 }

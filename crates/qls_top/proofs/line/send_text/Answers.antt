@@ -3,7 +3,7 @@ use Rattle.qls_pool.specs.Moments.{Passes}
 use Rattle.qls_top.specs.Moments.{AddsAnswer, AnswersQuietly, IsRunStep}
 use Rattle.qls_pool.specs.Serials.{TakesNone}
 use Rattle.qls_top.proofs.Lines.{told_answers, of_answers}
-use Rattle.qls_top.proofs.session.send_text.Goals as goal
+use Rattle.qls_top.proofs.line.send_text.Goals as goal
 
 pub returns-in-Ok-clause-quiet : goal.returns-in-Ok-clause-quiet
 returns-in-Ok-clause-quiet g c = of_answers c.args.text.now AnswersQuietly (λ x y a. a.quietly) _ _ (told_answers c.args.text.now (Ok tt) _ _ c.requires.differ c.in-Ok.ensures.told)
