@@ -8,3 +8,4 @@ mod Returns
 mod Changed
 mod OrderlyRun
 mod WholeRuns
+mod EpochRuns

@@ -1,0 +1,16 @@
+pub mod Alls
+pub mod Later
+pub mod Turns
+pub mod Ended
+pub mod Replayed
+pub mod Joined
+pub mod Trimmed
+pub mod ByNumber
+pub mod OneLess
+pub mod TrimmedImage
+pub mod Oldest
+pub mod DeadRecords
+pub mod DeadEntries
+pub mod Follows
+pub mod Dead
+pub mod DeadImage
