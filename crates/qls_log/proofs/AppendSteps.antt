@@ -14,16 +14,17 @@ use Rattle.qls_pool.specs.Pools.{PoolState, IsSpent}
 use Rattle.qls_pool.specs.Files.{HeadedFile, IsPoolOf, IsWholePool, OnDisk}
 use Rattle.qls_pool.proofs.Taken.{no_empty}
 use Rattle.qls_log.specs.declared.opening.Opening.{Opening}
-use Rattle.qls_log.specs.Logs.{LogState, IsSound, IsOfOpening, AreHeaded, capacity_in, ids}
+use Rattle.qls_log.specs.Logs.{LogState, IsSound, IsOfJournal, AreHeaded, capacity_in, ids}
 use Rattle.qls_log.specs.Standing.{HasFiles, LogThere, files_on}
 use Rattle.qls_log.specs.Steps.{AreOwn, IsOwnFile, MeetsEndWith, room_on}
-use Rattle.qls_log.specs.Taking.{TakesFiles, StopsAfter}
+use Rattle.qls_log.specs.Taking.{TakesFiles, NoneNext, StopsAfter}
 use Rattle.qls_log.specs.Writing.{from_written}
 use Rattle.qls_log.specs.Appending.{from_newest}
-use Rattle.qls_log.proofs.Appended.{headed_own}
+use Rattle.qls_log.proofs.Appended.{headed_all}
 use Rattle.qls_log.proofs.Appends.{gains, all_append}
 use Rattle.qls_log.proofs.Gains.{has_files}
 use Rattle.qls_log.proofs.OwnWrites.{own_files}
+use Rattle.qls_log.proofs.SpentEpoch.{HasNoEpoch}
 
 -- ---- the files that are written
 
@@ -51,7 +52,7 @@ module _ (l : LogState) (sound : IsSound l) (flushed : l.unsynced ≡ []) (pool 
       let got = gains l sound flushed pool left taken fs headers legal a mid t there p in
       let files : HasFiles l.opening (l.files ++ taken) mid.now.disk = has_files l.opening (l.files ++ taken) mid.now.disk got.resting in
       some_dropped l.opening (length l.files - 1) (l.files ++ taken) mid.now.disk
-      (own_files l.opening (l.files ++ taken) mid.now.disk files (all_append (IsOfOpening l.opening) l.files taken sound.own (headed_own l.opening l.newest fs taken headers))
+      (own_files l.opening (l.files ++ taken) mid.now.disk files (all_append (IsOfJournal l.opening) l.files taken sound.all (headed_all l.opening l.newest fs taken headers))
       (all_append (λ h. IsTrue (is_legal_header h.header)) l.files taken sound.legal legal))
 
   pub told_newest : (a mid : Option Content) → Tells (TakesFiles l.opening.home pool left taken) a mid → IfSome a (OnDisk (LogThere l)) → IfSome a (OnDisk (IsPoolOf pool [])) → IfSome mid (OnDisk (AreOwn l.opening (ids (from_newest l taken))))
@@ -91,23 +92,29 @@ or_second true b c e = refl
 or_second false true c e = refl
 or_second false false c e = absurd (cc)
 
-meets : (l : LogState) (pool : PoolState) (n needed : ℕ) (d : Disk) → 0 < capacity_in l.opening → l.used ≤ capacity_in l.opening → n ≡ (l.used + needed - 1) / capacity_in l.opening → StopsAfter l.opening l.newest n pool d → MeetsEndWith l needed d
-meets l pool n needed d some within count s =
+or_third : (a b c : Bool) → c ≡ true → ((a || b) || c) ≡ true
+or_third true b c e = refl
+or_third false true c e = refl
+or_third false false c e = e
+
+meets : (l : LogState) (pool : PoolState) (n needed : ℕ) (d : Disk) → 0 < capacity_in l.opening → l.used ≤ capacity_in l.opening → n ≡ (l.used + needed - 1) / capacity_in l.opening → StopsAfter l.opening l.newest n pool d → HasNoEpoch l d → MeetsEndWith l needed d
+meets l pool n needed d some within count s none =
     let o : Opening = l.opening in
     let files : List Headed = files_on o d in
     let newest : newest_number files ≡ l.newest + s.taken = omega (arith, s.may.next) in
     let room : room_on l d ≡ capacity_in o * s.taken + (capacity_in o - l.used) = ap (λ k. capacity_in o * k + (capacity_in o - l.used)) (omega (arith, newest)) in
-    ap₂ (λ a b. a && b) (less_of (room_on l d) needed (subst (λ r. r < needed) (sym room) (too_much (capacity_in o) l.used needed s.taken n some within count s.fewer))) (by s.last newest)
+    ap₂ (λ a b. a && b) (less_of (room_on l d) needed (subst (λ r. r < needed) (sym room) (too_much (capacity_in o) l.used needed s.taken n some within count s.fewer))) (by (not (nat_lt l.older (length files)) && (greatest_epoch files == last_count)) none s.last newest)
   where
-    by : ((l.newest + s.taken ≡ 2 ^ 62 - 1) ⊎ IsSpent l.opening.home pool) → newest_number (files_on l.opening d) ≡ l.newest + s.taken
-        → ((no_file_left l.opening.home d || newest_number (files_on l.opening d) == last_count) || (not true && (greatest_epoch (files_on l.opening d) == last_count))) ≡ true
-    by (inl last) newest = or_second (no_file_left l.opening.home d) (newest_number (files_on l.opening d) == last_count) false (equal_of (newest_number (files_on l.opening d)) last_count (newest ∙ last))
-    by (inr spent) newest = or_first (no_file_left l.opening.home d) (newest_number (files_on l.opening d) == last_count) false (spent_disk l.opening pool d s.may.whole spent)
+    by : (rest : Bool) → (l.opening.epoch ≡ 2 ^ 62 → rest ≡ true) → NoneNext l.opening (l.newest + s.taken) pool → newest_number (files_on l.opening d) ≡ l.newest + s.taken
+        → ((no_file_left l.opening.home d || newest_number (files_on l.opening d) == last_count) || rest) ≡ true
+    by rest none (inl last) newest = or_second (no_file_left l.opening.home d) (newest_number (files_on l.opening d) == last_count) rest (equal_of (newest_number (files_on l.opening d)) last_count (newest ∙ last))
+    by rest none (inr (inl last)) newest = or_third (no_file_left l.opening.home d) (newest_number (files_on l.opening d) == last_count) rest (none last)
+    by rest none (inr (inr spent)) newest = or_first (no_file_left l.opening.home d) (newest_number (files_on l.opening d) == last_count) rest (spent_disk l.opening pool d s.may.whole spent)
 
 pub told_meets : (l : LogState) (pool : PoolState) (n needed : ℕ) (a : Option Content) → 0 < capacity_in l.opening → l.used ≤ capacity_in l.opening → n ≡ (l.used + needed - 1) / capacity_in l.opening
-    → IfSome a (OnDisk (StopsAfter l.opening l.newest n pool)) → IfSome a (OnDisk (MeetsEndWith l needed))
-told_meets l pool n needed None some within count s = tt
-told_meets l pool n needed (Some c) some within count s = meets l pool n needed c.now.disk some within count s
+    → IfSome a (OnDisk (StopsAfter l.opening l.newest n pool)) → IfSome a (OnDisk (HasNoEpoch l)) → IfSome a (OnDisk (MeetsEndWith l needed))
+told_meets l pool n needed None some within count s none = tt
+told_meets l pool n needed (Some c) some within count s none = meets l pool n needed c.now.disk some within count s none
 
 -- ---- the whole pool
 

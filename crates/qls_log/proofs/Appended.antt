@@ -1,6 +1,7 @@
 -- A log behind a batch.
-use Rattle.std.proofs.Common.{◌≡◌, ℕ, zero, suc, ◌+◌, ◌-◌, ◌*◌, ◌/◌, ◌%◌, ◌^◌, ◌<◌, ◌≤◌, Bool, true, false, cond, ◌==◌, ◌||◌, List, [], ◌∷◌, ◌++◌, length, take, drop, Option, Some, None, IfSome, IsTrue, refl, sym, ap, ◌∙◌, subst, arith, length-append, length-take, length-drop}
-use Rattle.std.proofs.lemmas.Bool.{and_parts, eqb-true, leb-true}
+use Rattle.std.proofs.Common.{◌≡◌, ◌⊎◌, inl, inr, ℕ, zero, suc, ◌+◌, ◌-◌, ◌*◌, ◌/◌, ◌%◌, ◌^◌, ◌<◌, ◌≤◌, Bool, true, false, cond, ◌==◌, ◌||◌, List, [], ◌∷◌, ◌++◌, length, take, drop, Option, Some, None, IfSome, IsTrue, refl, sym, ap, ◌∙◌, subst, arith, length-append, length-take, length-drop}
+use Rattle.std.proofs.lemmas.Bool.{and_parts, eqb-true, leb-true, cases_lt}
+use Rattle.std.proofs.lemmas.List.{drop-append-le, take-append-le}
 use Rattle.std.proofs.Math.Seq.{drop-append_seam, drop-drop}
 use Rattle.std.specs.List.{AllByRecursion}
 use Rattle.qls_record.specs.Record.{Record}
@@ -14,7 +15,7 @@ use Rattle.qls_blocks.specs.Spelled.{spelled_over}
 use Rattle.qls_pool.specs.Pools.{PoolState}
 use Rattle.qls_pool.specs.Files.{HeadedFile, IsPoolOf, OnDisk, is_among, LinkedThere, RestsThere, IsAtRest}
 use Rattle.qls_log.specs.declared.opening.Opening.{Opening}
-use Rattle.qls_log.specs.Logs.{LogState, IsSound, IsLegalOpening, IsOfOpening, AreHeaded, NumberedFrom, capacity_in, ids, serials, header_for}
+use Rattle.qls_log.specs.Logs.{LogState, IsSound, IsLegalOpening, IsOfOpening, IsOfJournal, AreHeaded, NumberedFrom, capacity_in, ids, serials, header_for}
 use Rattle.qls_log.specs.Taking.{TakesFiles}
 use Rattle.qls_log.specs.Writing.{HaveRoom, AreInUse, WritesAll, with_parts, with_write, from_written}
 use Rattle.qls_log.specs.Standing.{HasFiles, LogThere, RestsBut}
@@ -23,6 +24,7 @@ use Rattle.qls_log.proofs.Gains.{GainedAll}
 use Rattle.qls_log.proofs.Quiets.{AreAmong, among_more, among_self}
 use Rattle.qls_log.proofs.Appends.{gains, sized, room, all_append, all_drop, all_used, enough_room, cut_last}
 use Rattle.qls_log.proofs.Gains.{has_files, others_all, answered_all}
+use Rattle.qls_log.proofs.Older.{all_of_journal}
 use Rattle.qls_blocks.proofs.Lengths.{length_of-with_fillers}
 use Rattle.qls_blocks.proofs.Spelling.{length-spelled_over}
 use Rattle.qls_log.proofs.Laid.{parts_laid, others_parts}
@@ -60,6 +62,10 @@ headed_own o newest (f ∷ fs) (h ∷ hs) t = (own f h t.0, headed_own o (newest
     own : (f : FreshFile) (h : HeadedFile) → h.header ≡ header_for o h.header.serial (newest + 1) f → IsOfOpening o h
     own f h e = e ∙ sym (λ i. header_for o h.header.serial (e i).number (record { first = (e i).first; rid = (e i).rid }))
 
+-- so they are of the journal
+pub headed_all : (o : Opening) (newest : ℕ) (fs : List FreshFile) (hs : List HeadedFile) → AreHeaded o newest fs hs → AllByRecursion (IsOfJournal o) hs
+headed_all o newest fs hs t = all_of_journal o hs (headed_own o newest fs hs t)
+
 pub numbered_more : (o : Opening) (n newest : ℕ) (hs : List HeadedFile) (fs : List FreshFile) (taken : List HeadedFile) → NumberedFrom n hs newest → AreHeaded o newest fs taken → NumberedFrom n (hs ++ taken) (newest + length taken)
 numbered_more o n newest [] [] [] m t = m ∙ omega arith
 numbered_more o n newest [] [] (h ∷ taken) m t = absurd t
@@ -68,15 +74,49 @@ numbered_more o n newest [] (f ∷ fs) (h ∷ taken) m t =
     (ap (λ (x : FileHeader). x.number) t.0 ∙ sym m, subst (NumberedFrom (n + 1) taken) (omega arith) (numbered_more o (n + 1) (newest + 1) [] fs taken (omega (arith, m)) t.1))
 numbered_more o n newest (g ∷ hs) fs taken m t = (m.0, numbered_more o (n + 1) newest hs fs taken m.1 t)
 
-pub sound_after : (l : LogState) (fs : List FreshFile) (taken : List HeadedFile) (new : LogState) → IsSound l → AreHeaded l.opening l.newest fs taken → new.opening ≡ l.opening → new.files ≡ l.files ++ taken → new.newest ≡ l.newest + length taken
+-- behind a full file, a batch takes another
+pub some_taken : (cap used len k : ℕ) → 0 < cap → 0 < len → k ≡ (used + len - 1) / cap → used ≡ cap → 0 < k
+some_taken cap used len k some more is full = by (cases_lt 0 k)
+  where
+    none : (n : ℕ) → n ≤ 0 → n ≡ 0
+    none n h = omega (arith, h)
+
+    once : (c : ℕ) → c * (0 + 1) ≡ c
+    once c = omega arith
+
+    one : (c n : ℕ) → n ≤ 0 → c * (n + 1) ≡ c
+    one c n h = ap (λ m. c * (m + 1)) (none n h) ∙ once c
+
+    by : (0 < k) ⊎ (k ≤ 0) → 0 < k
+    by (inl l) = l
+    by (inr l) = let room = enough_room cap used len k some more is in absurd (omega (arith, room, one cap k l, full, more))
+
+-- the files of earlier openings are the same, and those of this one are more
+parts_after : (l new : LogState) (taken : List HeadedFile) → l.older ≤ length l.files → new.files ≡ l.files ++ taken → new.older ≡ l.older
+    → (take new.older new.files ≡ take l.older l.files) × (drop new.older new.files ≡ drop l.older l.files ++ taken)
+parts_after l new taken less files older = (
+  (λ i. take (older i) (files i)) ∙ take-append-le l.older l.files taken less,
+  (λ i. drop (older i) (files i)) ∙ drop-append-le l.older l.files taken less,
+)
+
+pub sound_after : (l : LogState) (fs : List FreshFile) (taken : List HeadedFile) (new : LogState) → IsSound l → AreHeaded l.opening l.newest fs taken → new.opening ≡ l.opening → new.files ≡ l.files ++ taken → new.older ≡ l.older
+    → (l.used ≡ capacity_in l.opening → 0 < length taken) → new.newest ≡ l.newest + length taken
     → new.newest < 2 ^ 62 → (new.used % 4096 ≡ 0) × (new.used ≤ capacity_in l.opening) → new.rid < 2 ^ 62
     → AllByRecursion (λ h. IsTrue (is_legal_header h.header)) taken → AreAmong (ids new.files) new.unsynced → IsSound new
-sound_after l fs taken new s t o files newest small used rid legal among =
+sound_after l fs taken new s t o files older more newest small used rid legal among =
     let size : length new.files ≡ length l.files + length taken = ap length files ∙ length-append l.files taken in
     let start : new.newest + 1 - length new.files ≡ l.newest + 1 - length l.files = omega (arith, size, newest, s.few) in
+    let parts = parts_after l new taken s.older files older in
     record {
       opening = subst IsLegalOpening (sym o) s.opening;
-      own = subst (λ (x : Opening). AllByRecursion (IsOfOpening x) new.files) (sym o) (subst (AllByRecursion (IsOfOpening l.opening)) (sym files) (all_append (IsOfOpening l.opening) l.files taken s.own (headed_own l.opening l.newest fs taken t)));
+      all = subst (λ (x : Opening). AllByRecursion (IsOfJournal x) new.files) (sym o) (subst (AllByRecursion (IsOfJournal l.opening)) (sym files) (all_append (IsOfJournal l.opening) l.files taken s.all (headed_all l.opening l.newest fs taken t)));
+      older = omega (arith, size, older, s.older);
+      olds = subst (λ (x : Opening). AllByRecursion (λ h. h.header.epoch < x.epoch) (take new.older new.files)) (sym o) (subst (AllByRecursion (λ h. h.header.epoch < l.opening.epoch)) (sym parts.0) s.olds);
+      own =
+          subst (λ (x : Opening). AllByRecursion (IsOfOpening x) (drop new.older new.files)) (sym o)
+          (subst (AllByRecursion (IsOfOpening l.opening)) (sym parts.1) (all_append (IsOfOpening l.opening) (drop l.older l.files) taken s.own (headed_own l.opening l.newest fs taken t)));
+      full = λ e. absurd (none e size);
+      next = λ e. absurd (none e size);
       legal = subst (AllByRecursion (λ h. IsTrue (is_legal_header h.header))) (sym files) (all_append (λ h. IsTrue (is_legal_header h.header)) l.files taken s.legal legal);
       some = omega (arith, size, s.some);
       few = omega (arith, size, newest, s.few);
@@ -89,6 +129,9 @@ sound_after l fs taken new s t o files newest small used rid legal among =
       rid = rid;
       unsynced = among;
     }
+  where
+    none : new.older ≡ length new.files → length new.files ≡ length l.files + length taken → ⊥
+    none e size = let some : 0 < length taken = more (s.full (omega (arith, e, size, older, s.older))) in omega (arith, e, size, older, s.older, some)
 
 -- the files that are written are among the log's
 among_later : (n : ℕ) (all rest : List ℕ) → AreAmong all rest → AreAmong (n ∷ all) rest

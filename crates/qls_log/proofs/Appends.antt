@@ -20,7 +20,7 @@ use Rattle.qls_blocks.proofs.Stream.{is_held}
 use Rattle.qls_pool.specs.Pools.{PoolState}
 use Rattle.qls_pool.specs.Files.{HeadedFile, IsAtRest, IsLinked, LinkedThere, RestsThere, IsPoolOf}
 use Rattle.qls_log.specs.declared.opening.Opening.{Opening}
-use Rattle.qls_log.specs.Logs.{LogState, IsSound, IsOfOpening, AreHeaded, capacity_in, ids, serials}
+use Rattle.qls_log.specs.Logs.{LogState, IsSound, IsOfJournal, AreHeaded, capacity_in, ids, serials}
 use Rattle.qls_log.specs.Taking.{TakesFiles}
 use Rattle.qls_log.specs.Writing.{HaveRoom, AreInUse}
 use Rattle.qls_log.specs.Standing.{AreThoseFiles, LogThere, RestsBut}
@@ -164,11 +164,11 @@ module _ (l : LogState) (sound : IsSound l) (flushed : l.unsynced ≡ []) (pool 
   pub gains : GainedAll l.opening l.files taken l.newest left a mid
   gains = gained_all l.opening pool left l.files taken fs l.newest (l.newest + 1 - length l.files) a mid t headers legal (there.there.differ, p) sound.numbers resting_old
 
-  own_kib : (h : HeadedFile) → IsOfOpening l.opening h → h.header.kib * 1024 ≡ cap
+  own_kib : (h : HeadedFile) → IsOfJournal l.opening h → h.header.kib * 1024 ≡ cap
   own_kib h e = ap (λ (x : FileHeader). x.kib * 1024) e
 
   pub sized : AllByRecursion (λ g. g.header.kib * 1024 ≡ cap) all
-  sized = all_append (λ g. g.header.kib * 1024 ≡ cap) l.files taken (all_weaken (IsOfOpening l.opening) (λ g. g.header.kib * 1024 ≡ cap) own_kib l.files sound.own) (headed_sized l.opening l.newest fs taken headers)
+  sized = all_append (λ g. g.header.kib * 1024 ≡ cap) l.files taken (all_weaken (IsOfJournal l.opening) (λ g. g.header.kib * 1024 ≡ cap) own_kib l.files sound.all) (headed_sized l.opening l.newest fs taken headers)
 
   pub room : HaveRoom cap (ids (from_newest l taken)) mid
   room =

@@ -1,7 +1,7 @@
 -- What is read behind a batch.
-use Rattle.std.proofs.Common.{◌≡◌, ◌⊎◌, inl, inr, ℕ, zero, suc, ◌+◌, ◌-◌, ◌*◌, ◌%◌, ◌/◌, ◌^◌, ◌<◌, ◌≤◌, Bool, true, false, cond, ◌&&◌, ◌||◌, ◌==◌, eqb, ltb, nat_le, List, [], ◌∷◌, ◌++◌, map, length, take, drop, Option, Some, None, IfSome, IsTrue, refl, sym, ap, ap₂, ◌∙◌, subst, arith, length-append, append_assoc, append-nil}
+use Rattle.std.proofs.Common.{◌≡◌, ◌⊎◌, inl, inr, ℕ, zero, suc, ◌+◌, ◌-◌, ◌*◌, ◌%◌, ◌/◌, ◌^◌, ◌<◌, ◌≤◌, Bool, true, false, cond, ◌&&◌, ◌||◌, ◌==◌, eqb, ltb, nat_le, List, [], ◌∷◌, ◌++◌, map, length, take, drop, Option, Some, None, IfSome, IsTrue, refl, sym, ap, ap₂, ◌∙◌, subst, arith, length-append, append_assoc, append-nil, take-take}
 use Rattle.std.proofs.Math.Seq.{drop-append_seam}
-use Rattle.std.proofs.lemmas.List.{map-append}
+use Rattle.std.proofs.lemmas.List.{map-append, drop-append-le}
 use Rattle.std.specs.List.{AllByRecursion}
 use Rattle.qls_shape.specs.declared.Version.TheVariants.{Two}
 use Rattle.qls_record.specs.Record.{Record, record_length, is_legal}
@@ -14,11 +14,11 @@ use Rattle.qls_meaning.specs.Damage.{first_in}
 use Rattle.qls_blocks.specs.Plans.{plan_of, fresh_file, fresh_count, starts}
 use Rattle.qls_pool.proofs.Disks.{eqb_is}
 use Rattle.qls_filehdr.proofs.HeaderTrip.{legal_parts, most_of}
-use Rattle.qls_meaning.specs.Journals.{Headed}
-use Rattle.qls_meaning.specs.Reading.{Placed, Read, stream, record_in, end_from, first_place, epoch_reading, epoch_end, located, journal_reading}
+use Rattle.qls_meaning.specs.Journals.{Headed, epochs}
+use Rattle.qls_meaning.specs.Reading.{Placed, Read, stream, record_in, end_from, first_place, begin_place, epoch_reading, epoch_end, located, reads_of, journal_reading}
 use Rattle.qls_meaning.specs.History.{AllUnmarked}
 use Rattle.qls_meaning.specs.Orderly.{journal_on}
-use Rattle.qls_laws.specs.Readings.{Stand}
+use Rattle.qls_laws.specs.Readings.{Stand, AgreeUpTo}
 use Rattle.qls_laws.specs.Areas.{IsUnmarkedAt}
 use Rattle.qls_laws.proofs.Reaches.{records_stand, stand_there, stand_end}
 use Rattle.qls_laws.proofs.Unmarked.{none_unmarked}
@@ -29,7 +29,7 @@ use Rattle.qls_blocks.proofs.Spelling.{length-spelled_over}
 use Rattle.qls_pool.specs.Pools.{PoolState}
 use Rattle.qls_pool.specs.Files.{HeadedFile, IsPoolOf, OnDisk}
 use Rattle.qls_log.specs.declared.opening.Opening.{Opening}
-use Rattle.qls_log.specs.Logs.{LogState, IsSound, IsOfOpening, AreHeaded, NumberedFrom, capacity_in, ids, serials}
+use Rattle.qls_log.specs.Logs.{LogState, IsSound, IsOfOpening, IsOfJournal, AreHeaded, NumberedFrom, capacity_in, ids, serials}
 use Rattle.qls_log.specs.Taking.{TakesFiles}
 use Rattle.qls_log.specs.Writing.{WritesAll, with_parts, with_write}
 use Rattle.qls_log.specs.Standing.{files_on, end_of, AreThoseFiles, LogThere, LastIsUnmarked}
@@ -37,12 +37,13 @@ use Rattle.qls_log.specs.Appending.{from_newest, batch_bytes, written_files, wri
 use Rattle.qls_log.specs.Reads.{IsRead, ReadsOn, batch_reads, read_in}
 use Rattle.qls_log.proofs.Gains.{LastUnmarked, unmarked_front}
 use Rattle.qls_log.proofs.Laid.{those_length}
-use Rattle.qls_log.proofs.Appends.{those_split, same_heads, all_capacity, end_laid, cut_last, what_laid}
+use Rattle.qls_log.proofs.Appends.{those_split, same_heads, all_capacity, all_drop, end_laid, cut_last, what_laid}
+use Rattle.qls_log.proofs.Shifted.{stream_both, record_behind, stand_back, located_behind, laid_moved, agree_behind, reading_by}
+use Rattle.qls_log.proofs.Older.{Onward, onward, Apart, apart_by, is_oldest, older_before, those_count, those_epoch, reading_both}
 use Rattle.qls_log.proofs.Appended.{sound_capacity, tail_length}
 use Rattle.qls_log.proofs.Stands.{Lies, lies, new_end}
 use Rattle.qls_log.proofs.Streams.{HaveSameHeads, stand_append, end_append}
-use Rattle.qls_laws.proofs.Claimed.{HaveEpoch, reading_of_run}
-use Rattle.qls_laws.proofs.Leftover.{reading_from}
+use Rattle.qls_laws.proofs.Leftover.{all_moved}
 use Rattle.qls_log.proofs.Places.{CountFrom, FirstFits, first_again, all_located, count_of, laid_located, later_unmarked, unmarked_again, unmarked_end}
 
 -- ---- the records of a batch
@@ -158,18 +159,6 @@ last_mid cap used now fs [] (c ∷ cs) t k u h = absurd t
 last_mid cap used now fs (h ∷ taken) [] t k u low = absurd t
 last_mid cap used now fs (h ∷ taken) (c ∷ cs) t k u low = later_unmarked 0 now (fs ++ c ∷ cs) (omega arith) (last_came fs c cs u)
 
-pub those_count : (cap : ℕ) (hs : List HeadedFile) (fs : List Headed) → AreThoseFiles cap hs fs → length fs ≡ length hs
-those_count cap [] [] t = refl
-those_count cap [] (f ∷ fs) t = absurd t
-those_count cap (h ∷ hs) [] t = absurd t
-those_count cap (h ∷ hs) (f ∷ fs) t = ap suc (those_count cap hs fs t.1)
-
-pub those_epoch : (cap : ℕ) (o : Opening) (hs : List HeadedFile) (fs : List Headed) → AreThoseFiles cap hs fs → AllByRecursion (IsOfOpening o) hs → HaveEpoch o.epoch fs
-those_epoch cap o [] [] t own = tt
-those_epoch cap o [] (f ∷ fs) t own = absurd t
-those_epoch cap o (h ∷ hs) [] t own = absurd t
-those_epoch cap o (h ∷ hs) (f ∷ fs) t own = (ap (λ (x : FileHeader). x.epoch) (t.0.header ∙ own.0), those_epoch cap o hs fs t.1 own.1)
-
 pub those_serials : (cap : ℕ) (hs : List HeadedFile) (fs : List Headed) → AreThoseFiles cap hs fs → AllByRecursion (λ h. IsTrue (is_legal_header h.header)) hs → AllByRecursion (λ f. f.header.serial < 2 ^ 64) fs
 those_serials cap [] [] t legal = tt
 those_serials cap [] (f ∷ fs) t legal = absurd t
@@ -181,7 +170,7 @@ or_cases : (a b : Bool) → (a || b) ≡ true → (a ≡ true) ⊎ (b ≡ true)
 or_cases true b e = inl refl
 or_cases false b e = inr e
 
-first_fits : (o : Opening) (h : HeadedFile) → IsTrue (is_legal_header h.header) → IsOfOpening o h → (h.header.first ≡ 0) ⊎ (h.header.first - 4096 < capacity_in o)
+first_fits : (o : Opening) (h : HeadedFile) → IsTrue (is_legal_header h.header) → IsOfJournal o h → (h.header.first ≡ 0) ⊎ (h.header.first - 4096 < capacity_in o)
 first_fits o h legal own =
     by (or_cases (h.header.first == 0) (nat_le 4096 h.header.first && nat_le (h.header.first + 128) (file_size h.header.kib) && h.header.first % 128 == 0) (legal_parts h.header legal).first)
   where
@@ -197,7 +186,7 @@ first_fits o h legal own =
         let within : h.header.first + 128 ≤ file_size h.header.kib = most_of (h.header.first + 128) (file_size h.header.kib) parts.1 in
         inr (omega (arith, past, within, kib))
 
-pub those_first : (cap : ℕ) (o : Opening) (hs : List HeadedFile) (fs : List Headed) → AreThoseFiles cap hs fs → AllByRecursion (λ h. IsTrue (is_legal_header h.header)) hs → AllByRecursion (IsOfOpening o) hs → FirstFits (capacity_in o) fs
+pub those_first : (cap : ℕ) (o : Opening) (hs : List HeadedFile) (fs : List Headed) → AreThoseFiles cap hs fs → AllByRecursion (λ h. IsTrue (is_legal_header h.header)) hs → AllByRecursion (IsOfJournal o) hs → FirstFits (capacity_in o) fs
 those_first cap o [] [] t legal own = tt
 those_first cap o [] (f ∷ fs) t legal own = absurd t
 those_first cap o (h ∷ hs) [] t legal own = absurd t
@@ -206,7 +195,7 @@ those_first cap o (h ∷ hs) (f ∷ fs) t legal own = (
   those_first cap o hs fs t.1 legal.1 own.1,
 )
 
-numbered_tail : (n newest : ℕ) (xs ys : List HeadedFile) → NumberedFrom n (xs ++ ys) newest → NumberedFrom (n + length xs) ys newest
+pub numbered_tail : (n newest : ℕ) (xs ys : List HeadedFile) → NumberedFrom n (xs ++ ys) newest → NumberedFrom (n + length xs) ys newest
 numbered_tail n newest [] ys m = subst (λ k. NumberedFrom k ys newest) (omega arith) m
 numbered_tail n newest (x ∷ xs) ys m = subst (λ k. NumberedFrom k ys newest) (omega arith) (numbered_tail (n + 1) newest xs ys m.1)
 
@@ -214,8 +203,8 @@ numbered_tail n newest (x ∷ xs) ys m = subst (λ k. NumberedFrom k ys newest) 
 
 module _ (l new : LogState) (sound : IsSound l) (again : IsSound new) (left : PoolState) (taken : List HeadedFile) (rs : List Record) (a mid b : Content)
     (those_old : AreThoseFiles (capacity_in l.opening) l.files (files_on l.opening a.now.disk)) (lies : Lies l taken rs left a mid b) (opening : new.opening ≡ l.opening)
-    (files : new.files ≡ l.files ++ taken) (newest : new.newest ≡ l.newest + length taken) (end_is : end_of l + length_of (with_fillers rs) ≡ end_of new) (some : 0 < length_of (with_fillers rs))
-    (at_front : l.used ≡ capacity_in l.opening → BeginsAtFront taken) where
+    (files : new.files ≡ l.files ++ taken) (older : new.older ≡ l.older) (newest : new.newest ≡ l.newest + length taken) (end_is : end_of l + length_of (with_fillers rs) ≡ end_of new)
+    (some : 0 < length_of (with_fillers rs)) (at_front : l.used ≡ capacity_in l.opening → BeginsAtFront taken) where
   abbrev cap : ℕ
   cap = capacity_in l.opening
 
@@ -262,18 +251,28 @@ module _ (l new : LogState) (sound : IsSound l) (again : IsSound new) (left : Po
       next : (k c : ℕ) → (k + 1) * c ≡ k * c + c
       next k c = grind arith
 
-  -- the files before, under the same headers
-  pub record OldPart : Type 0 where
-    pub gs : List Headed
-    pub more : List Headed
-    pub is : new_files ≡ gs ++ more
-    pub heads : HaveSameHeads old_files gs
-    pub those_more : AreThoseFiles cap taken more
+  -- the files of earlier openings, and those of this one, before and behind the batch
+  pub part : Onward cap l.older l.files taken old_files new_files
+  part =
+      onward cap l.older l.files taken old_files new_files sound.older those_old those_new
+      (sym (take-take (l.older * cap) limit (stream new_files) before) ∙ ap (take (l.older * cap)) lies.agrees.front ∙ take-take (l.older * cap) limit (stream old_files) before)
+    where
+      before : l.older * cap ≤ limit
+      before = older_before cap l.used l.older (length l.files) sound.some sound.older sound.full
 
-  pub old_part : OldPart
-  old_part =
-      let s = those_split cap l.files taken new_files those_new in
-      record { gs = s.0; more = s.1; is = s.2; heads = same_heads cap l.files old_files s.0 those_old s.3; those_more = s.4 }
+  pub heads : HaveSameHeads part.own part.kept
+  heads = same_heads cap (drop l.older l.files) part.own part.kept part.those_own part.those_kept
+
+  pub apart_old : Apart l.opening.epoch part.past part.own
+  apart_old = apart_by l cap sound part.past part.own part.those_past part.those_own
+
+  pub apart_new : Apart l.opening.epoch part.past (part.kept ++ part.more)
+  apart_new = record {
+    less = apart_old.less;
+    one =
+        those_epoch cap l.opening (drop l.older l.files ++ taken) (part.kept ++ part.more) part.those_now
+        (subst (λ (o : Opening). AllByRecursion (IsOfOpening o) (drop l.older l.files ++ taken)) opening (subst (AllByRecursion (IsOfOpening new.opening)) ((λ i. drop (older i) (files i)) ∙ drop-append-le l.older l.files taken sound.older) again.own));
+  }
 
   -- the files from the one on that was the newest
   record NewPart : Type 0 where
@@ -336,63 +335,110 @@ module _ (l new : LogState) (sound : IsSound l) (again : IsSound new) (left : Po
       (omega (arith, new_count, again.some)) (omega (arith, blocks)) within (omega (arith, whole_blocks)) k in
       none_unmarked new_files (limit + length_of ws) (subst (IsUnmarkedAt new_files) (ap (λ n. cap * (n - 1) + new.used) new_count ∙ sym end_new ∙ sym end_is) unmarked)
 
-  pub new_epoch : HaveEpoch l.opening.epoch new_files
-  new_epoch = subst (λ (o : Opening). HaveEpoch o.epoch new_files) opening (those_epoch cap new.opening new.files new_files those_own again.own)
+  -- the reading of this opening's files, as the oldest epoch or as a later one
+  module _ (oldest : Bool) (ends : l.older * cap + epoch_end oldest part.own ≡ limit) (behind : LastIsUnmarked l.used old_files) (came : LastUnmarked lies.got.came) where
+    abbrev own : List Headed
+    own = part.own
+
+    abbrev now_own : List Headed
+    now_own = part.kept ++ part.more
+
+    abbrev old : List Placed
+    old = epoch_reading oldest own
+
+    abbrev q : ℕ
+    q = epoch_end oldest own
+
+    abbrev pub batch : List Placed
+    batch = laid_from q ws
+
+    place : length (stream part.past) + q ≡ limit
+    place = ap (λ n. n + q) part.size ∙ ends
+
+    pub agrees_own : AgreeUpTo q own now_own
+    agrees_own = agree_behind part.past own now_own q (subst (λ (X : Type 0). X) (λ i. AgreeUpTo (sym place i) (part.was i) (part.is i)) lies.agrees)
+
+    moved_batch : all_moved (length (stream part.past)) batch ≡ laid_from limit ws
+    moved_batch = laid_moved (length (stream part.past)) q ws ∙ ap (λ p. laid_from p ws) place
+
+    batch_stands : Stand now_own q batch
+    batch_stands =
+        stand_back part.past now_own q batch
+        (subst (λ (X : Type 0). X) (λ i. Stand (part.is i) (sym place i) (sym moved_batch i)) lies.stands)
+
+    pub old_stands : Stand own (begin_place oldest own) old
+    old_stands = records_stand own (length (stream own) / 128) (begin_place oldest own)
+
+    pub begin_is : begin_place oldest now_own ≡ begin_place oldest own
+    begin_is = by oldest old_stands ends
+      where
+        all_size : length (stream old_files) ≡ length (stream part.past) + length (stream own)
+        all_size = ap (λ (fs : List Headed). length (stream fs)) part.was ∙ ap length (stream_both part.past own) ∙ length-append (stream part.past) (stream own)
+
+        by : (b : Bool) → Stand own (begin_place b own) (epoch_reading b own) → l.older * cap + epoch_end b own ≡ limit → begin_place b now_own ≡ begin_place b own
+        by false s e = refl
+        by true s e =
+            first_again cap own part.kept part.more (all_capacity cap (drop l.older l.files) own part.those_own)
+            (those_first cap l.opening (drop l.older l.files) own part.those_own (all_drop (λ h. IsTrue (is_legal_header h.header)) l.older l.files sound.legal) (all_drop (IsOfJournal l.opening) l.older l.files sound.all)) heads
+            -- then the newest file is full, and the batch begins at the front of the next one
+            (λ late.
+            let reached : first_place own ≤ epoch_end true own = stand_end own (first_place own) (epoch_reading true own) s in
+            let full : l.used ≡ cap = omega (arith, reached, late, old_size, sound.used.1, all_size, part.size, e) in
+            first_of_front cap taken part.more part.those_more (at_front full))
+
+    all_stand : Stand now_own (begin_place oldest own) (old ++ batch)
+    all_stand = stand_append now_own (begin_place oldest own) old batch (stand_there q own now_own agrees_own (begin_place oldest own) old old_stands (omega arith)) batch_stands
+
+    pub end_all : end_from (begin_place oldest now_own) (old ++ batch) ≡ q + length_of ws
+    end_all = ap (λ p. end_from p (old ++ batch)) begin_is ∙ end_append (begin_place oldest own) old batch ∙ end_laid q ws
+
+    pub behind_new : LastIsUnmarked new.used new_files
+    behind_new = unmarked_new came behind
+
+    none_own : record_in now_own (q + length_of ws) ≡ None
+    none_own =
+        sym (record_behind part.past now_own (q + length_of ws)) ∙ ap (record_in (part.past ++ now_own)) (ap (λ n. n + (q + length_of ws)) part.size ∙ omega (arith, ends))
+        ∙ ap (λ (fs : List Headed). record_in fs (limit + length_of ws)) (sym part.is) ∙ ends_none behind_new
+
+    pub reading_new : epoch_reading oldest now_own ≡ old ++ batch
+    reading_new =
+        reading_by oldest now_own (old ++ batch) (subst (λ p. Stand now_own p (old ++ batch)) (sym begin_is) all_stand) (ap (record_in now_own) end_all ∙ none_own)
+
+    pub end_now : l.older * cap + epoch_end oldest now_own ≡ end_of new
+    end_now =
+        let here : epoch_end oldest now_own ≡ q + length_of ws = ap (end_from (begin_place oldest now_own)) reading_new ∙ end_all in
+        omega (arith, here, ends, end_is)
+
+    located_now : map (located now_own) (epoch_reading oldest now_own) ≡ map (located own) old ++ batch_reads l rs
+    located_now =
+        ap (map (located now_own)) reading_new ∙ map-append (located now_own) old batch
+        ∙ ap₂ (λ (x y : List Read). x ++ y) (all_located own part.kept part.more heads (begin_place oldest own) old old_stands)
+        (sym (located_behind part.past now_own q batch batch_stands) ∙ (λ i. map (located (sym part.is i)) (moved_batch i)) ∙ located_batch)
 
   module _ (reads : List Read) (r : IsRead l reads a.now.disk) (came : LastUnmarked lies.got.came) where
-    abbrev old : List Placed
-    old = epoch_reading true old_files
+    oldest_is : is_oldest part.past ≡ (l.older == 0)
+    oldest_is = ap (λ n. n == 0) part.count
 
-    abbrev batch : List Placed
-    batch = laid_from limit ws
+    pub own_ends : l.older * cap + epoch_end (l.older == 0) part.own ≡ limit
+    own_ends = ap (λ (fs : List Headed). l.older * cap + epoch_end (l.older == 0) fs) (sym part.rest_was) ∙ r.ends
 
-    pub old_stands : Stand old_files (first_place old_files) old
-    old_stands = records_stand old_files (length (stream old_files) / 128) (first_place old_files)
-
-    all_stand : Stand new_files (first_place old_files) (old ++ batch)
-    all_stand =
-        stand_append new_files (first_place old_files) old batch (stand_there limit old_files new_files lies.agrees (first_place old_files) old old_stands (omega (arith, r.ends)))
-        (subst (λ p. Stand new_files p batch) (sym r.ends) lies.stands)
-
-    pub first_is : first_place new_files ≡ first_place old_files
-    first_is =
-        ap first_place old_part.is
-        ∙ first_again cap old_files old_part.gs old_part.more (all_capacity cap l.files old_files those_old) (those_first cap l.opening l.files old_files those_old sound.legal sound.own) old_part.heads none_before
-      where
-        -- then the newest file is full, and the batch begins at the front of the next one
-        none_before : length (stream old_files) ≤ first_place old_files → first_place old_part.more ≡ 0
-        none_before late =
-            let reached : first_place old_files ≤ limit = subst (λ n. first_place old_files ≤ n) r.ends (stand_end old_files (first_place old_files) old old_stands) in
-            let full : l.used ≡ cap = omega (arith, reached, late, old_size, sound.used.1) in
-            first_of_front cap taken old_part.more old_part.those_more (at_front full)
-
-    end_all : end_from (first_place new_files) (old ++ batch) ≡ limit + length_of ws
-    end_all =
-        ap (λ p. end_from p (old ++ batch)) first_is ∙ end_append (first_place old_files) old batch ∙ ap (λ p. end_from p batch) r.ends ∙ end_laid limit ws
-
-    behind_new : LastIsUnmarked new.used new_files
-    behind_new = unmarked_new came r.behind
-
-    pub reading_new : epoch_reading true new_files ≡ old ++ batch
-    reading_new =
-        reading_from new_files (old ++ batch) (subst (λ p. Stand new_files p (old ++ batch)) (sym first_is) all_stand) (ap (record_in new_files) end_all ∙ ends_none behind_new)
-
-    located_old : map (located new_files) old ≡ reads
-    located_old =
-        ap (λ (fs : List Headed). map (located fs) old) old_part.is ∙ all_located old_files old_part.gs old_part.more old_part.heads (first_place old_files) old old_stands
-        ∙ sym (reading_of_run l.opening.epoch l.opening.kind l.opening.name old_files (those_epoch cap l.opening l.files old_files those_old sound.own) (omega (arith, those_count cap l.files old_files those_old, sound.some)))
-        ∙ r.reading
-
-    journal_new : journal_reading (journal_on b.now.disk l.opening.kind l.opening.name) ≡ reads ++ batch_reads l rs
+    pub journal_new : reads_of true (epochs new_files) ≡ reads ++ batch_reads l rs
     journal_new =
-        reading_of_run l.opening.epoch l.opening.kind l.opening.name new_files new_epoch (omega (arith, new_count, again.some))
-        ∙ ap (map (located new_files)) reading_new ∙ map-append (located new_files) old batch ∙ ap₂ (λ (x y : List Read). x ++ y) located_old located_batch
+        let before : List Read = reads_of true (epochs part.past) in
+        let old_reads : List Read = map (located part.own) (epoch_reading (l.older == 0) part.own) in
+        let was : before ++ old_reads ≡ reads =
+        ap (λ b. before ++ map (located part.own) (epoch_reading b part.own)) (sym oldest_is) ∙ sym (ap (λ (fs : List Headed). reads_of true (epochs fs)) part.was ∙ reading_both l.opening.epoch part.past part.own apart_old) ∙ r.reading in
+        ap (λ (fs : List Headed). reads_of true (epochs fs)) part.is ∙ reading_both l.opening.epoch part.past (part.kept ++ part.more) apart_new
+        ∙ ap (λ b. before ++ map (located (part.kept ++ part.more)) (epoch_reading b (part.kept ++ part.more))) oldest_is
+        ∙ ap (λ (xs : List Read). before ++ xs) (located_now (l.older == 0) own_ends r.behind came) ∙ sym (append_assoc before old_reads (batch_reads l rs)) ∙ ap (λ (xs : List Read). xs ++ batch_reads l rs) was
 
     pub read_on : IsRead new (reads ++ batch_reads l rs) b.now.disk
     read_on = record {
       reading = subst (λ (o : Opening). journal_reading (journal_on b.now.disk o.kind o.name) ≡ reads ++ batch_reads l rs) (sym opening) journal_new;
-      ends = subst (λ (o : Opening). epoch_end true (files_on o b.now.disk) ≡ end_of new) (sym opening) (ap (end_from (first_place new_files)) reading_new ∙ end_all ∙ end_is);
-      behind = subst (λ (o : Opening). LastIsUnmarked new.used (files_on o b.now.disk)) (sym opening) behind_new;
+      ends =
+          subst (λ (X : Type 0). X) (λ i. sym older i * capacity_in (sym opening i) + epoch_end (sym older i == 0) (drop (sym older i) (files_on (sym opening i) b.now.disk)) ≡ end_of new)
+          (ap (λ (fs : List Headed). l.older * cap + epoch_end (l.older == 0) fs) part.rest_is ∙ end_now (l.older == 0) own_ends r.behind came);
+      behind = subst (λ (o : Opening). LastIsUnmarked new.used (files_on o b.now.disk)) (sym opening) (behind_new (l.older == 0) own_ends r.behind came);
     }
 
 -- ---- told
@@ -400,7 +446,7 @@ module _ (l new : LogState) (sound : IsSound l) (again : IsSound new) (left : Po
 module _ (l : LogState) (sound : IsSound l) (flushed : l.unsynced ≡ []) (pool left : PoolState) (taken : List HeadedFile) (fs : List FreshFile) (headers : AreHeaded l.opening l.newest fs taken)
     (legal : AllByRecursion (λ h. IsTrue (is_legal_header h.header)) taken) (rs : List Record) (records : AllByRecursion (λ r. IsTrue (is_legal Two r)) (with_fillers rs))
     (some : 0 < length (batch_bytes l taken rs)) (count : length taken ≡ (l.used + length (batch_bytes l taken rs) - 1) / capacity_in l.opening)
-    (new : LogState) (opening : new.opening ≡ l.opening) (files : new.files ≡ l.files ++ taken) (used : new.used + capacity_in l.opening * length taken ≡ l.used + length (batch_bytes l taken rs))
+    (new : LogState) (opening : new.opening ≡ l.opening) (files : new.files ≡ l.files ++ taken) (older : new.older ≡ l.older) (used : new.used + capacity_in l.opening * length taken ≡ l.used + length (batch_bytes l taken rs))
     (newest : new.newest ≡ l.newest + length taken) (again : IsSound new) (planned : fs ≡ (plan_of rs l.used (capacity_in l.opening) l.rid).fresh) where
   reads_on : (a mid b : Content) → TakesFiles l.opening.home pool left taken a mid → b ≡ with_parts (capacity_in l.opening) (ids (written_files l taken)) (written_place l) (batch_bytes l taken rs) mid
       → LogThere l a.now.disk → IsPoolOf pool [] a.now.disk → ReadsOn rs l new a b
@@ -413,7 +459,7 @@ module _ (l : LogState) (sound : IsSound l) (flushed : l.unsynced ≡ []) (pool 
         batch = batch_whats l rs;
         adds = added.all ∙ ap (λ (ms : List Moment). a.moments ++ ms) (sym added.added);
         read = λ unmarked reads r.
-            read_on l new sound again left taken rs a mid b h.there.files lying opening files newest end_is
+            read_on l new sound again left taken rs a mid b h.there.files lying opening files older newest end_is
             (subst (λ n. 0 < n) (length-spelled_over (capacity_in l.opening) (serials (from_newest l taken)) l.used (with_fillers rs)) some)
             (begins_at_front l rs fs taken (sound_capacity l.opening sound.opening).0 headers planned) reads r
             (lying.got.unmarked (unmarked_front a.now lying.got.since added.writes (subst (AllUnmarked a.now) added.added unmarked)));

@@ -1,5 +1,5 @@
 -- One sync after another, and what they leave.
-use Rattle.std.proofs.Common.{◌≡◌, ℕ, Bool, true, false, cond, ◌||◌, ◌==◌, List, [], ◌∷◌, map, take, Option, Some, None, Result, Ok, Err, IfSome, IsErr, IsSome, refl, sym, ap, ap₂, ◌∙◌, subst, arith, option_map}
+use Rattle.std.proofs.Common.{◌≡◌, ℕ, ◌+◌, ◌*◌, drop, Bool, true, false, cond, ◌||◌, ◌==◌, List, [], ◌∷◌, map, take, Option, Some, None, Result, Ok, Err, IfSome, IsErr, IsSome, refl, sym, ap, ap₂, ◌∙◌, subst, arith, option_map}
 use Rattle.std.specs.List.{AllByRecursion}
 use Rattle.qls_site.specs.declared.site.SiteError.{SiteError}
 use Rattle.qls_site.specs.declared.site.SiteError.TheVariants.{Failed, Memory}
@@ -292,7 +292,7 @@ read_same l reads d e same r =
     let files : files_on l.opening d ≡ files_on l.opening e = ap (λ (i : Image). (journal (map headed (in_use i)) l.opening.kind l.opening.name).files) (sym same) in
     record {
       reading = subst (λ (i : Image). journal_reading (journal (map headed (in_use i)) l.opening.kind l.opening.name) ≡ reads) (sym same) r.reading;
-      ends = subst (λ (fs : List Headed). epoch_end true fs ≡ end_of l) files r.ends;
+      ends = subst (λ (fs : List Headed). l.older * capacity_in l.opening + epoch_end (l.older == 0) (drop l.older fs) ≡ end_of l) files r.ends;
       behind = subst (LastIsUnmarked l.used) files r.behind;
     }
 

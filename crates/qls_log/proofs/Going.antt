@@ -20,7 +20,7 @@ use Rattle.qls_log.specs.declared.opening.Opening.{Opening}
 use Rattle.qls_log.specs.declared.fault.LogError.{LogError}
 use Rattle.qls_log.specs.declared.fault.LogError.TheVariants.{Failed, Draw, Spent, Memory}
 use Rattle.qls_log.specs.Steps.{GoesBy, is_exact}
-use Rattle.qls_log.specs.Taking.{MayTake, StopsAfter}
+use Rattle.qls_log.specs.Taking.{NoneNext, MayTake, StopsAfter}
 
 module _ (R : Moment → Moment → Type 0) where
   goes_passes : {X : Type 0} (r : Result X LogError) (a b : Content) → GoesBy R r a b → Passes R a b
@@ -97,15 +97,15 @@ draws_handed X {Y} e r a b x y is h = subst (λ exact. DrawsTaken exact a b x y)
 
 -- ---- the next file can't be had
 
-stops : (o : Opening) (newest number at n : ℕ) (pool : PoolState) (c : Content) → number ≡ newest + at → at < n → MayTake o pool (number + 1) c.now.disk → ((number ≡ 2 ^ 62 - 1) ⊎ IsSpent o.home pool) → StopsAfter o newest n pool c.now.disk
+stops : (o : Opening) (newest number at n : ℕ) (pool : PoolState) (c : Content) → number ≡ newest + at → at < n → MayTake o pool (number + 1) c.now.disk → NoneNext o number pool → StopsAfter o newest n pool c.now.disk
 stops o newest number at n pool c is less may last = record {
   taken = at;
   fewer = less;
   may = subst (λ k. MayTake o pool (k + 1) c.now.disk) is may;
-  last = subst (λ k. (k ≡ 2 ^ 62 - 1) ⊎ IsSpent o.home pool) is last;
+  last = subst (λ k. NoneNext o k pool) is last;
 }
 
-pub told_stops : (o : Opening) (newest number at n : ℕ) (pool : PoolState) (a : Option Content) → number ≡ newest + at → at < n → IfSome a (OnDisk (MayTake o pool (number + 1))) → ((number ≡ 2 ^ 62 - 1) ⊎ IsSpent o.home pool)
+pub told_stops : (o : Opening) (newest number at n : ℕ) (pool : PoolState) (a : Option Content) → number ≡ newest + at → at < n → IfSome a (OnDisk (MayTake o pool (number + 1))) → NoneNext o number pool
     → IfSome a (OnDisk (StopsAfter o newest n pool))
 told_stops o newest number at n pool None is less may last = tt
 told_stops o newest number at n pool (Some c) is less may last = stops o newest number at n pool c is less may last

@@ -8,7 +8,7 @@ use Rattle.qls_filehdr.specs.declared.FileHeader.{FileHeader}
 use Rattle.qls_filehdr.specs.Limits.{is_legal_header}
 use Rattle.qls_filehdr.proofs.HeaderTrip.{legal_parts}
 use Rattle.qls_meaning.specs.Journals.{Headed}
-use Rattle.qls_meaning.specs.Reading.{Placed, stream, begin_place, first_place, end_from, epoch_reading, located, journal_reading}
+use Rattle.qls_meaning.specs.Reading.{Placed, stream, begin_place, first_place, end_from, epoch_reading, epoch_end, located, journal_reading}
 use Rattle.qls_meaning.specs.History.{AllUnmarked, IsUnmarked}
 use Rattle.qls_meaning.specs.Orderly.{journal_on}
 use Rattle.qls_laws.specs.Areas.{IsUnmarkedAt}
@@ -24,11 +24,14 @@ use Rattle.qls_log.specs.Reads.{BeginsReading}
 use Rattle.qls_log.proofs.Flushes.{all_but}
 use Rattle.qls_log.proofs.Gains.{has_files, GainedAll, gained_all, LastUnmarked, others_all, answered_all}
 
-pub spent_at_once : (o : Opening) (pool : PoolState) → MeetsEnd o 0 1 pool → IsSpent o.home pool
-spent_at_once o pool m = ⊎_elim (λ e. absurd (none m.taken m.fewer e)) (λ s. s) m.last
+pub spent_at_once : (o : Opening) (pool : PoolState) → o.epoch ≡ 1 → MeetsEnd o 0 1 pool → IsSpent o.home pool
+spent_at_once o pool first m = ⊎_elim (λ e. absurd (none m.taken m.fewer e)) (λ s. ⊎_elim (λ e. absurd (below o.epoch first e)) (λ t. t) s) m.last
   where
     none : (k : ℕ) → k < 1 → 0 + k ≡ 2 ^ 62 - 1 → ⊥
     none k h e = omega arith
+
+    below : (n : ℕ) → n ≡ 1 → n ≡ 2 ^ 62 → ⊥
+    below n a b = omega (arith, a, b)
 
 -- nothing is read of an unmarked file
 unmarked_start : (f : Headed) → f.header.serial < 2 ^ 64 → IsUnmarked f → 128 ≤ length f.area → IsUnmarkedAt (f ∷ []) 0
@@ -109,10 +112,13 @@ module _ (o : Opening) (pool left : PoolState) (h : HeadedFile) (a b : Content) 
       let none : epoch_reading true (files_on o b.now.disk) ≡ [] = no_reads (files_on o b.now.disk) (epoch_reading true (files_on o b.now.disk)) (sym (one_reading (files_on o b.now.disk) one.0 one.1) ∙ nothing.reading) in
       record {
         reading = nothing.reading;
-        ends = ap (end_from (first_place (files_on o b.now.disk))) none ∙ start_stands.begins ∙ start_stands.ends;
+        ends = no_older (capacity_in o) (epoch_end true (files_on o b.now.disk)) ∙ ap (end_from (first_place (files_on o b.now.disk))) none ∙ start_stands.begins ∙ start_stands.ends;
         behind = nothing.behind;
       }
     where
+      no_older : (c n : ℕ) → 0 * c + n ≡ n
+      no_older c n = omega arith
+
       no_reads : (fs : List Headed) (rs : List Placed) → map (located fs) rs ≡ [] → rs ≡ []
       no_reads fs [] e = refl
       no_reads fs (r ∷ rs) e = absurd (cc)

@@ -28,7 +28,7 @@ use Rattle.qls_log.specs.declared.opening.Opening.{Opening}
 use Rattle.qls_log.specs.declared.fault.LogError.{LogError}
 use Rattle.qls_log.specs.Faults.{fault_of_site}
 use Rattle.qls_log.proofs.Going.{goes_nowhere}
-use Rattle.qls_log.specs.Logs.{LogState, IsSound, IsOfOpening, ids}
+use Rattle.qls_log.specs.Logs.{LogState, IsSound, IsOfJournal, ids}
 use Rattle.qls_log.specs.Standing.{HasFiles, LogThere}
 use Rattle.qls_log.specs.Steps.{IsLogStep, IsOwnFile, AreOwn, KeepsOwn, PassesOwn, EndsOwn, GoesOwn, GoesBy}
 use Rattle.qls_log.proofs.OwnSteps.{own_same, own_step, used_changes}
@@ -241,19 +241,19 @@ told_syncs o ids (Err e) (Some x) (Some y) own t =
 seen_of : (id : ℕ) (d : Disk) (p : Option FileState) → file_of id d ≡ p → (f : FileState) → p ≡ Some f → bytes_at id d ≡ seen f
 seen_of id d p e f k = ap Rattle.qls_site.specs.Disk.seen_bytes (e ∙ k)
 
-pub own_one : (o : Opening) (h : HeadedFile) (d : Disk) (p : Option FileState) → file_of h.id d ≡ p → IsLinked h p → take 4096 (bytes_at h.id d) ≡ header_spelling h.header → IsOfOpening o h → IsTrue (is_legal_header h.header)
+pub own_one : (o : Opening) (h : HeadedFile) (d : Disk) (p : Option FileState) → file_of h.id d ≡ p → IsLinked h p → take 4096 (bytes_at h.id d) ≡ header_spelling h.header → IsOfJournal o h → IsTrue (is_legal_header h.header)
     → IsOwnFile o p
 own_one o h d None e l k is legal = absurd l
 own_one o h d (Some f) e l k is legal =
     let header : header_fields (take 4096 (seen f)) ≡ h.header = header_seen h.header (seen f) legal (ap (take 4096) (sym (seen_of h.id d (Some f) e f refl)) ∙ k) in
     (ap is_in_use l.0, is_of-own o.kind o.name (headed (full_file f)) (ap (λ (x : FileHeader). x.kind) (header ∙ is)) (ap (λ (x : FileHeader). x.name) (header ∙ is)))
 
-own_all : (o : Opening) (hs : List HeadedFile) (d : Disk) → AllByRecursion (λ h. LinkedThere h d) hs → AllByRecursion (λ h. take 4096 (bytes_at h.id d) ≡ header_spelling h.header) hs → AllByRecursion (IsOfOpening o) hs
+own_all : (o : Opening) (hs : List HeadedFile) (d : Disk) → AllByRecursion (λ h. LinkedThere h d) hs → AllByRecursion (λ h. take 4096 (bytes_at h.id d) ≡ header_spelling h.header) hs → AllByRecursion (IsOfJournal o) hs
     → AllByRecursion (λ h. IsTrue (is_legal_header h.header)) hs → AllByRecursion (λ id. IsOwnFile o (file_of id d)) (ids hs)
 own_all o [] d l k is legal = tt
 own_all o (h ∷ hs) d l k is legal = (own_one o h d (file_of h.id d) refl l.0 k.0 is.0 legal.0, own_all o hs d l.1 k.1 is.1 legal.1)
 
-pub own_files : (o : Opening) (hs : List HeadedFile) (d : Disk) → HasFiles o hs d → AllByRecursion (IsOfOpening o) hs → AllByRecursion (λ h. IsTrue (is_legal_header h.header)) hs → AreOwn o (ids hs) d
+pub own_files : (o : Opening) (hs : List HeadedFile) (d : Disk) → HasFiles o hs d → AllByRecursion (IsOfJournal o) hs → AllByRecursion (λ h. IsTrue (is_legal_header h.header)) hs → AreOwn o (ids hs) d
 own_files o hs d h is legal = record { differ = h.differ; own = own_all o hs d h.linked h.headers is legal }
 
 some_own : (o : Opening) (all ids : List ℕ) (d : Disk) → AreAmong all ids → AllByRecursion (λ id. IsOwnFile o (file_of id d)) all → AllByRecursion (λ id. IsOwnFile o (file_of id d)) ids
@@ -264,7 +264,7 @@ pub own_among : (o : Opening) (all ids : List ℕ) (d : Disk) → AreAmong all i
 own_among o all ids d among h = record { differ = h.differ; own = some_own o all ids d among h.own }
 
 log_own : (l : LogState) (d : Disk) → IsSound l → LogThere l d → AreOwn l.opening l.unsynced d
-log_own l d sound there = own_among l.opening (ids l.files) l.unsynced d sound.unsynced (own_files l.opening l.files d there.there sound.own sound.legal)
+log_own l d sound there = own_among l.opening (ids l.files) l.unsynced d sound.unsynced (own_files l.opening l.files d there.there sound.all sound.legal)
 
 pub told_log_own : (l : LogState) (a : Option Content) → IsSound l → IfSome a (OnDisk (LogThere l)) → IfSome a (OnDisk (AreOwn l.opening l.unsynced))
 told_log_own l None sound there = tt

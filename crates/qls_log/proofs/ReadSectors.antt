@@ -1,22 +1,26 @@
 -- What is read of a log lies in sectors that were written.
-use Rattle.std.proofs.Common.{◌≡◌, ℕ, suc, ◌+◌, ◌-◌, ◌*◌, ◌/◌, ◌<◌, ◌≤◌, Bool, true, false, cond, nat_le, nat_lt, List, [], ◌∷◌, ◌++◌, map, length, Option, Some, None, refl, sym, ap, ◌∙◌, subst, arith}
+use Rattle.std.proofs.Common.{◌≡◌, ℕ, zero, suc, ◌+◌, ◌-◌, ◌*◌, ◌/◌, ◌<◌, ◌≤◌, Bool, true, false, cond, nat_le, nat_lt, List, [], ◌∷◌, ◌++◌, map, length, take, ◌==◌, Option, Some, None, refl, sym, ap, ap₂, ◌∙◌, subst, arith, append-nil}
+use Rattle.std.proofs.Math.Seq.{take-append_seam}
 use Rattle.std.proofs.lemmas.Bool.Decides.{nat_tests}
 use Rattle.std.specs.List.{AllByRecursion}
 use Rattle.qls_record.specs.Record.{Record}
 use Rattle.qls_meaning.specs.Chance.{EachPlace, SpellsWritten, WrittenAt, places}
 use Rattle.qls_meaning.specs.History.{History, FreeArea, now, is_unwritten}
 use Rattle.qls_meaning.specs.Journals.{Headed, epochs}
-use Rattle.qls_meaning.specs.Reading.{Placed, Read, holder, stream, record_in, length_in, end_from, begin_place, epoch_reading}
+use Rattle.qls_meaning.specs.Reading.{Placed, Read, holder, stream, record_in, length_in, end_from, begin_place, epoch_reading, epoch_end}
 use Rattle.qls_laws.specs.Readings.{Stand}
-use Rattle.qls_laws.proofs.Claimed.{HaveEpoch, one_run}
+use Rattle.qls_laws.proofs.Claimed.{one_run}
+use Rattle.qls_laws.proofs.Seen.{All-epochs}
+use Rattle.qls_epochs.proofs.Turns.{runs}
+use Rattle.qls_blocks.proofs.Stream.{holder-behind}
 use Rattle.qls_laws.proofs.Ends.{record_in-epoch_end}
 use Rattle.qls_laws.proofs.Reaches.{records_stand, stand_end}
 use Rattle.qls_pool.specs.Files.{HeadedFile}
 use Rattle.qls_log.specs.Logs.{LogState, IsSound, capacity_in}
 use Rattle.qls_log.specs.Reads.{IsRead}
-use Rattle.qls_log.specs.Standing.{AreThoseFiles, LogThere, files_on, end_of}
+use Rattle.qls_log.specs.Standing.{IsThatFile, AreThoseFiles, LogThere, files_on, end_of}
 use Rattle.qls_log.specs.Unwritten.{IsFreeFrom, AreWrittenTo, IsWrittenTo}
-use Rattle.qls_log.proofs.Behind.{those_epoch}
+use Rattle.qls_log.proofs.Older.{Halves, halves, Apart, apart_by, is_oldest, not_none, epochs_both}
 
 -- ---- the sector of a byte
 
@@ -103,17 +107,80 @@ module _ (areas : List FreeArea) (h : History) where
     places_written fs limit w r.after rs s.3 l none,
   )
 
+-- ---- files that are written whole
+
+module _ (areas : List FreeArea) (h : History) where
+  -- so is each byte of the file
+  abbrev IsWrittenWhole : Headed → Type 0
+  IsWrittenWhole f = (q : ℕ) → q < length f.area → is_unwritten areas h f.id ((4096 + q) / 512) ≡ false
+
+  whole_one : (cap to : ℕ) (k : HeadedFile) (f : Headed) → IsThatFile cap k f → IsFreeFrom areas h cap to k.id → cap ≤ to → IsWrittenWhole f
+  whole_one cap to k f t free late q l = ap (λ id. is_unwritten areas h id ((4096 + q) / 512)) t.id ∙ byte_written areas h cap to q k.id free (omega (arith, l, late, t.area)) (omega (arith, l, t.area))
+
+  -- the first files are, and the newest one too where it is full
+  first_whole : (cap used n : ℕ) (hs : List HeadedFile) (fs : List Headed) → AreThoseFiles cap hs fs → AreWrittenTo areas h cap used hs → (length hs ≤ n → used ≡ cap) → AllByRecursion IsWrittenWhole (take n fs)
+  first_whole cap used zero hs fs t w full = tt
+  first_whole cap used (suc n) [] [] t w full = tt
+  first_whole cap used (suc n) [] (f ∷ fs) t w full = absurd t
+  first_whole cap used (suc n) (k ∷ hs) [] t w full = absurd t
+  first_whole cap used (suc n) (k ∷ []) (f ∷ []) t w full = (whole_one cap used k f t.0 w (omega (arith, full (omega arith))), nothing n)
+    where
+      nothing : (n : ℕ) → AllByRecursion IsWrittenWhole (take n [])
+      nothing zero = tt
+      nothing (suc n) = tt
+  first_whole cap used (suc n) (k ∷ []) (f ∷ g ∷ fs) t w full = absurd t.1
+  first_whole cap used (suc n) (k ∷ j ∷ hs) (f ∷ []) t w full = absurd t.1
+  first_whole cap used (suc n) (k ∷ j ∷ hs) (f ∷ g ∷ fs) t w full =
+      (whole_one cap cap k f t.0 w.0 (omega arith), first_whole cap used n (j ∷ hs) (g ∷ fs) t.1 w.1 (λ less. full (omega (arith, less))))
+
+  whole_holder : (fs : List Headed) → AllByRecursion IsWrittenWhole fs → (q : ℕ) → WrittenAt areas h (holder fs q)
+  whole_holder [] w q = tt
+  whole_holder (f ∷ fs) w q = by (nat_lt q (length f.area)) refl (whole_holder fs w.1 (q - length f.area))
+    where
+      by : (b : Bool) → nat_lt q (length f.area) ≡ b → WrittenAt areas h (holder fs (q - length f.area)) → WrittenAt areas h (cond b (Some (record { file = f; within = q })) (holder fs (q - length f.area)))
+      by true e rest = w.0 q (less_of q (length f.area) e)
+      by false e rest = rest
+
+  epoch_written : (oldest : Bool) (fs : List Headed) (limit : ℕ) → ((q : ℕ) → q < limit → WrittenAt areas h (holder fs q)) → epoch_end oldest fs ≤ limit → AllByRecursion (SpellsWritten areas h fs) (places oldest fs)
+  epoch_written oldest fs limit w low =
+      places_written areas h fs limit w (begin_place oldest fs) (epoch_reading oldest fs) (records_stand fs (length (stream fs) / 128) (begin_place oldest fs)) low (record_in-epoch_end oldest fs)
+
+  all_written : (oldest : Bool) (es : List (List Headed)) → AllByRecursion (AllByRecursion IsWrittenWhole) es → EachPlace (SpellsWritten areas h) oldest es
+  all_written oldest [] w = tt
+  all_written oldest (e ∷ es) w = (epoch_written oldest e (epoch_end oldest e) (λ q l. whole_holder e w.0 q) (omega arith), all_written false es w.1)
+
+  -- and then the epoch of this opening
+  then_written : (oldest : Bool) (d : List Headed) (es : List (List Headed)) (own : List Headed) → EachPlace (SpellsWritten areas h) oldest (d ∷ es) → AllByRecursion (SpellsWritten areas h own) (places false own)
+      → EachPlace (SpellsWritten areas h) oldest ((d ∷ es) ++ own ∷ [])
+  then_written oldest d [] own w last = (w.0, (last, tt))
+  then_written oldest d (c ∷ es) own w last = (w.0, then_written false c es own w.1 last)
+
+  both_written : (e : ℕ) (past own : List Headed) → Apart e past own → AllByRecursion IsWrittenWhole past → AllByRecursion (SpellsWritten areas h own) (places (is_oldest past) own) → EachPlace (SpellsWritten areas h) true (epochs (past ++ own))
+  both_written e [] [] a w last = tt
+  both_written e [] (g ∷ gs) a w last = subst (EachPlace (SpellsWritten areas h) true) (sym (one_run e g gs a.one)) (last, tt)
+  both_written e (f ∷ fs) [] a w last = subst (λ (xs : List Headed). EachPlace (SpellsWritten areas h) true (epochs xs)) (sym (append-nil (f ∷ fs))) (all_written true (epochs (f ∷ fs)) (All-epochs IsWrittenWhole (f ∷ fs) w))
+  both_written e (f ∷ fs) (g ∷ gs) a w last =
+      let r = runs f fs in
+      subst (EachPlace (SpellsWritten areas h) true) (sym (epochs_both e f fs g gs a ∙ ap (λ (es : List (List Headed)). es ++ (g ∷ gs) ∷ []) r.is))
+      (then_written true (f ∷ r.more) r.rest (g ∷ gs) (subst (EachPlace (SpellsWritten areas h) true) r.is (all_written true (epochs (f ∷ fs)) (All-epochs IsWrittenWhole (f ∷ fs) w)))
+      (subst (λ b. AllByRecursion (SpellsWritten areas h (g ∷ gs)) (places b (g ∷ gs))) (not_none (length fs)) last))
+
 -- ---- a log
 
 pub read_is_written : (areas : List FreeArea) (h : History) (l : LogState) (reads : List Read) → IsSound l → LogThere l (now h).disk → IsRead l reads (now h).disk → IsWrittenTo areas h l
     → EachPlace (SpellsWritten areas h) true (epochs (files_on l.opening (now h).disk))
 read_is_written areas h l reads sound there r w =
+    let cap : ℕ = capacity_in l.opening in
     let fs : List Headed = files_on l.opening (now h).disk in
-    let all : AllByRecursion (SpellsWritten areas h fs) (places true fs) =
-    places_written areas h fs (end_of l) (held_written areas h (capacity_in l.opening) l.used l.files fs sound.used.1 there.there.files w.written) (begin_place true fs) (epoch_reading true fs)
-    (records_stand fs (length (stream fs) / 128) (begin_place true fs)) (omega (arith, r.ends)) (record_in-epoch_end true fs) in
-    by fs (those_epoch (capacity_in l.opening) l.opening l.files fs there.there.files sound.own) all
-  where
-    by : (fs : List Headed) → HaveEpoch l.opening.epoch fs → AllByRecursion (SpellsWritten areas h fs) (places true fs) → EachPlace (SpellsWritten areas h) true (epochs fs)
-    by [] one all = tt
-    by (f ∷ fs) one all = subst (EachPlace (SpellsWritten areas h) true) (sym (one_run l.opening.epoch f fs one)) (all, tt)
+    let s : Halves cap l.older l.files fs = halves cap l.older l.files fs sound.older there.there.files in
+    let ends : l.older * cap + epoch_end (l.older == 0) s.own ≡ end_of l = ap (λ (gs : List Headed). l.older * cap + epoch_end (l.older == 0) gs) (sym s.rest) ∙ r.ends in
+    let past : AllByRecursion (IsWrittenWhole areas h) s.past =
+    subst (AllByRecursion (IsWrittenWhole areas h)) (ap₂ (λ n (gs : List Headed). take n gs) (sym s.count) s.is ∙ take-append_seam s.past s.own)
+    (first_whole areas h cap l.used l.older l.files fs there.there.files w.written (λ less. sound.full (omega (arith, less, sound.older)))) in
+    let own : AllByRecursion (SpellsWritten areas h s.own) (places (is_oldest s.past) s.own) =
+    epoch_written areas h (is_oldest s.past) s.own (epoch_end (l.older == 0) s.own)
+    (λ q less. subst (WrittenAt areas h) (ap (λ (gs : List Headed). holder gs (length (stream s.past) + q)) s.is ∙ holder-behind s.past s.own q)
+    (held_written areas h cap l.used l.files fs sound.used.1 there.there.files w.written (length (stream s.past) + q) (omega (arith, s.size, ends, less))))
+    (subst (λ n. epoch_end (n == 0) s.own ≤ epoch_end (l.older == 0) s.own) (sym s.count) (omega arith)) in
+    subst (λ (gs : List Headed). EachPlace (SpellsWritten areas h) true (epochs gs)) (sym s.is)
+    (both_written areas h l.opening.epoch s.past s.own (apart_by l cap sound s.past s.own s.those_past s.those_own) past own)

@@ -15,12 +15,13 @@ use Rattle.qls_log.specs.declared.opening.Opening.{Opening}
 use Rattle.qls_log.specs.declared.fault.LogError.{LogError}
 use Rattle.qls_log.specs.declared.fault.LogError.TheVariants.{Memory}
 use Rattle.qls_log.specs.Faults.{fault_of_site}
-use Rattle.qls_log.specs.Logs.{LogState, IsSound, IsOfOpening, NumberedFrom, capacity_in, ids}
+use Rattle.qls_log.specs.Logs.{LogState, IsSound, IsOfOpening, IsOfJournal, EndBefore, NumberedFrom, capacity_in, ids}
 use Rattle.qls_log.specs.Standing.{HasFiles, AreApart, AreThoseFiles, LogThere, RestsBut, files_on}
 use Rattle.qls_log.specs.Steps.{IsLogStep, GoesOwn}
 use Rattle.qls_log.specs.Returning.{MayReturn, Returned, GivesBack, GivesAll, before_number, released, with_backs}
 use Rattle.qls_log.specs.Appending.{LeavesOthers}
 use Rattle.qls_log.proofs.Appends.{all_drop}
+use Rattle.qls_log.proofs.Older.{olds_drop, own_drop, end_dropped}
 
 -- ---- which files
 
@@ -51,7 +52,7 @@ may_return : (l : LogState) (pool : PoolState) (d : Disk) → IsSound l → LogT
 may_return l pool d sound there p = record {
   spare = p;
   files = there.there;
-  own = sound.own;
+  own = sound.all;
   legal = sound.legal;
   first = l.newest + 1 - length l.files;
   last = l.newest;
@@ -72,14 +73,25 @@ length_dropped : (k : ℕ) (hs : List HeadedFile) → length (drop k hs) ≡ len
 length_dropped k hs = length-drop k hs
 
 -- the log without its first files is sound
-pub sound_without : (l new : LogState) (k : ℕ) → IsSound l → k < length l.files → l.unsynced ≡ [] → new.opening ≡ l.opening → new.files ≡ drop k l.files → new.newest ≡ l.newest → new.used ≡ l.used → new.rid ≡ l.rid → new.unsynced ≡ l.unsynced → IsSound new
-sound_without l new k s less flushed opening files newest used rid unsynced =
+pub sound_without : (l new : LogState) (k : ℕ) → IsSound l → k < length l.files → l.unsynced ≡ [] → new.opening ≡ l.opening → new.files ≡ drop k l.files → new.older ≡ l.older - k → new.newest ≡ l.newest → new.used ≡ l.used → new.rid ≡ l.rid → new.unsynced ≡ l.unsynced → IsSound new
+sound_without l new k s less flushed opening files older newest used rid unsynced =
     let size : length new.files ≡ length l.files - k = ap length files ∙ length_dropped k l.files in
     let start : l.newest + 1 - length l.files + k ≡ new.newest + 1 - length new.files = omega (arith, size, newest, s.few, less) in
-    let own : AllByRecursion (IsOfOpening l.opening) (drop k l.files) = all_drop (IsOfOpening l.opening) k l.files s.own in
+    let all : AllByRecursion (IsOfJournal l.opening) (drop k l.files) = all_drop (IsOfJournal l.opening) k l.files s.all in
     record {
       opening = subst Rattle.qls_log.specs.Logs.IsLegalOpening (sym opening) s.opening;
-      own = subst (λ (o : Opening). AllByRecursion (IsOfOpening o) new.files) (sym opening) (subst (AllByRecursion (IsOfOpening l.opening)) (sym files) own);
+      all = subst (λ (o : Opening). AllByRecursion (IsOfJournal o) new.files) (sym opening) (subst (AllByRecursion (IsOfJournal l.opening)) (sym files) all);
+      older = omega (arith, size, older, s.older);
+      olds =
+          subst (λ (o : Opening). AllByRecursion (λ h. h.header.epoch < o.epoch) (take new.older new.files)) (sym opening)
+          (subst (AllByRecursion (λ h. h.header.epoch < l.opening.epoch)) (λ i. take (sym older i) (sym files i)) (olds_drop (λ h. h.header.epoch < l.opening.epoch) k l.older l.files s.olds));
+      own =
+          subst (λ (o : Opening). AllByRecursion (IsOfOpening o) (drop new.older new.files)) (sym opening)
+          (subst (AllByRecursion (IsOfOpening l.opening)) (λ i. drop (sym older i) (sym files i)) (own_drop (IsOfOpening l.opening) k l.older l.files s.own));
+      full = λ e. used ∙ s.full (omega (arith, e, size, older, less)) ∙ ap capacity_in (sym opening);
+      next = λ e.
+          subst (λ (o : Opening). EndBefore o.epoch new.files) (sym opening)
+          (subst (EndBefore l.opening.epoch) (sym files) (end_dropped l.opening.epoch k l.files less (s.next (omega (arith, e, size, older, less)))));
       legal = subst (AllByRecursion (λ h. IsTrue (is_legal_header h.header))) (sym files) (all_drop (λ h. IsTrue (is_legal_header h.header)) k l.files s.legal);
       some = omega (arith, size, less);
       few = omega (arith, size, newest, s.few);
@@ -156,7 +168,7 @@ answered_chain : (o : Opening) (m : Moment) (ms : List Moment) → Chain (IsLogS
 answered_chain o m [] h = refl
 answered_chain o m (n ∷ ns) h = answered_chain o n ns h.1 ∙ h.0.answered
 
-answered_arrives : (o : Opening) (x y : Content) → Arrives (IsLogStep o) x y → y.now.answered ≡ x.now.answered
+pub answered_arrives : (o : Opening) (x y : Content) → Arrives (IsLogStep o) x y → y.now.answered ≡ x.now.answered
 answered_arrives o x y h = ap (λ (m : Moment). m.answered) h.last ∙ answered_chain o x.now h.since h.chain
 
 module _ (o : Opening) (left : PoolState) (kept given : List HeadedFile) where

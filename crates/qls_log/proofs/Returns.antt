@@ -56,7 +56,7 @@ differ_by m n h = from (m == n) refl
     from true e = absurd (h (Rattle.qls_pool.proofs.Disks.eqb_is m n e))
     from false e = e
 
-turned_off : (m n : ℕ) → ((m == n) || false) ≡ false → (n == m) ≡ false
+pub turned_off : (m n : ℕ) → ((m == n) || false) ≡ false → (n == m) ≡ false
 turned_off m n e = grind (arith, nat_tests, e)
 
 pub linked_found : (h : HeadedFile) (o : Option FileState) → IsLinked h o → (f : FileState) × (o ≡ Some f) × IsLinked h (Some f)

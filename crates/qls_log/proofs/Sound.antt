@@ -1,5 +1,5 @@
 -- A log's journal breaks no damage rule: as it is made, behind a batch, and once it is flushed.
-use Rattle.std.proofs.Common.{◌≡◌, ℕ, ◌+◌, ◌-◌, ◌*◌, ◌/◌, ◌<◌, true, List, [], ◌∷◌, ◌++◌, map, length, Option, Some, None, IfSome, IsTrue, Result, Ok, refl, sym, ap, ap₂, ◌∙◌, subst, arith}
+use Rattle.std.proofs.Common.{◌≡◌, ℕ, ◌+◌, ◌-◌, ◌*◌, ◌/◌, ◌<◌, true, List, [], ◌∷◌, ◌++◌, map, length, Option, Some, None, IfSome, IsTrue, Result, Ok, refl, sym, ap, ◌∙◌, subst, arith}
 use Rattle.std.specs.List.{AllByRecursion, filter}
 use Rattle.qls_shape.specs.declared.Version.TheVariants.{Two}
 use Rattle.qls_record.specs.Record.{Record, is_legal}
@@ -9,16 +9,18 @@ use Rattle.qls_site.specs.Content.{Content, Tells}
 use Rattle.qls_filehdr.specs.declared.FileHeader.{FileHeader}
 use Rattle.qls_filehdr.specs.declared.JournalKind.{JournalKind}
 use Rattle.qls_filehdr.specs.Limits.{is_legal_header}
-use Rattle.qls_meaning.specs.Journals.{Headed, journal, in_use, headed}
-use Rattle.qls_meaning.specs.Reading.{Placed, Read, stream, end_from, first_place, epoch_reading, located, journal_reading}
-use Rattle.qls_meaning.specs.Damage.{chain_claims, reading_claims, rid_at_end, oldest_rid}
+use Rattle.qls_meaning.specs.Journals.{Headed, journal, in_use, headed, epochs}
+use Rattle.qls_meaning.specs.Reading.{Placed, end_from, first_place, epoch_reading, epoch_end, located, journal_reading}
+use Rattle.qls_meaning.specs.Damage.{chain_claims, reading_claims, oldest_rid}
+use Rattle.qls_meaning.specs.Dead.{past_in, past_files}
+use Rattle.qls_meaning.specs.Spent.{rid_of_reads}
 use Rattle.qls_meaning.specs.History.{AllUnmarked}
-use Rattle.qls_laws.proofs.Leftover.{AllBefore}
-use Rattle.qls_laws.proofs.Claimed.{HaveEpoch, InOrder, AllKeep, in_file, keeps_rules, rules_kept, reading_of_run}
+use Rattle.qls_epochs.proofs.Ended.{none_after}
+use Rattle.qls_laws.proofs.Claimed.{HaveEpoch, InOrder, AllKeep, in_file, rules_kept, reading_of_run}
 use Rattle.qls_blocks.specs.declared.plan.FreshFile.{FreshFile}
-use Rattle.qls_blocks.specs.Batching.{length_of, block_length, laid_from, last_rid, with_fillers}
+use Rattle.qls_blocks.specs.Batching.{length_of, last_rid, with_fillers}
 use Rattle.qls_blocks.specs.Parts.{Syncs}
-use Rattle.qls_blocks.specs.Plans.{plan_of, fresh_count}
+use Rattle.qls_blocks.specs.Plans.{plan_of}
 use Rattle.qls_blocks.proofs.Spelling.{length-spelled_over}
 use Rattle.qls_pool.specs.Pools.{PoolState}
 use Rattle.qls_pool.specs.Files.{HeadedFile, IsPoolOf, OnDisk, Carries}
@@ -26,20 +28,18 @@ use Rattle.qls_log.specs.declared.opening.Opening.{Opening}
 use Rattle.qls_log.specs.Logs.{LogState, IsSound, AreHeaded, capacity_in, ids, serials}
 use Rattle.qls_log.specs.Taking.{TakesFiles}
 use Rattle.qls_log.specs.Writing.{WritesAll, with_parts}
-use Rattle.qls_log.specs.Standing.{files_on, end_of, AreThoseFiles, LogThere}
+use Rattle.qls_log.specs.Standing.{files_on, end_of, LogThere}
 use Rattle.qls_log.specs.Appending.{FollowRids, new_log, from_newest, batch_bytes, written_files, written_place, SyncsAll}
 use Rattle.qls_log.specs.Reads.{IsRead, BeginsReading, ReadsOn}
 use Rattle.qls_log.specs.Soundness.{IsUndamaged, BeginsUndamaged, StaysUndamaged}
-use Rattle.qls_log.proofs.Gains.{LastUnmarked, unmarked_front}
-use Rattle.qls_log.proofs.Appends.{all_capacity}
+use Rattle.qls_log.proofs.Gains.{unmarked_front}
 use Rattle.qls_log.proofs.Appended.{sound_capacity}
 use Rattle.qls_log.proofs.Stands.{Lies, lies, new_end}
-use Rattle.qls_log.proofs.Streams.{HaveSameHeads, same_length}
 use Rattle.qls_log.proofs.News.{those_one}
 use Rattle.qls_log.proofs.Flushes.{flushed, same_seen, synced_some}
-use Rattle.qls_log.proofs.Behind.{BeginsAtFront, begins_at_front, Added, added_by, unmarked_first, those_count, those_epoch, those_own, old_size, OldPart, old_part, new_epoch, old_stands, first_is, reading_new}
+use Rattle.qls_log.proofs.Behind.{begins_at_front, Added, added_by, unmarked_first}
 use Rattle.qls_log.proofs.Puts.{syncs_moments}
-use Rattle.qls_log.proofs.SoundRules.{chain_of, all_before, rid_at_end-append, laid_ascend, rid_laid, follow_filled, last_filled, laid_in_order, files_stay, files_come, keep_append}
+use Rattle.qls_log.proofs.SoundBatch.{stays_undamaged}
 
 -- ---- a new log
 
@@ -73,7 +73,8 @@ begun o h d rid there read =
     record {
       chain = ap chain_claims one.1;
       reading = rules_kept f.header.epoch o.kind o.name (files_on o d) same (keep (files_on o d) one.1 none);
-      rid = ap₂ (λ (fs : List Headed) (rs : List Placed). rid_at_end (oldest_rid fs) rs) one.1 none ∙ ap (λ (x : FileHeader). x.rid) one.2.header ∙ rid;
+      past = ap (λ (fs : List Headed). past_in true (epochs fs)) one.1 ∙ none_after (epoch_end true (f ∷ [])) (f ∷ []) (omega arith);
+      rid = ap (rid_of_reads (oldest_rid (files_on o d))) read.reading ∙ ap oldest_rid one.1 ∙ ap (λ (x : FileHeader). x.rid) one.2.header ∙ rid;
     }
 
 pub told_begun : (o : Opening) (h : HeadedFile) (a b : Option Content) → AreHeaded o 0 (record { first = 4096; rid = 0 } ∷ []) (h ∷ []) → IfSome b (OnDisk (LogThere (new_log o h))) → Tells (BeginsReading (new_log o h)) a b
@@ -83,131 +84,12 @@ told_begun o h None (Some y) t there r = absurd r
 told_begun o h (Some x) None t there r = absurd r
 told_begun o h (Some x) (Some y) t there r = λ u. begun o h y.now.disk (ap (λ (k : FileHeader). k.rid) t.0) there (r u)
 
--- ---- behind a batch
-
-oldest_same : (fs gs more : List Headed) → HaveSameHeads fs gs → 0 < length fs → oldest_rid (gs ++ more) ≡ oldest_rid fs
-oldest_same [] gs more h some = absurd (omega arith)
-oldest_same (f ∷ fs) [] more h some = absurd h
-oldest_same (f ∷ fs) (g ∷ gs) more h some = ap (λ (x : FileHeader). x.rid) h.0
-
-module _ (l new : LogState) (sound : IsSound l) (again : IsSound new) (left : PoolState) (taken : List HeadedFile) (rs : List Record) (a mid b : Content)
-    (those_old : AreThoseFiles (capacity_in l.opening) l.files (files_on l.opening a.now.disk)) (lies : Lies l taken rs left a mid b) (opening : new.opening ≡ l.opening)
-    (files : new.files ≡ l.files ++ taken) (newest : new.newest ≡ l.newest + length taken) (end_is : end_of l + length_of (with_fillers rs) ≡ end_of new) (some : 0 < length_of (with_fillers rs))
-    (at_front : l.used ≡ capacity_in l.opening → BeginsAtFront taken) (reads : List Read) (r : IsRead l reads a.now.disk) (came : LastUnmarked lies.got.came)
-    (fs : List FreshFile) (headers : AreHeaded l.opening l.newest fs taken) (planned : fs ≡ (plan_of rs l.used (capacity_in l.opening) l.rid).fresh)
-    (one : 0 < length rs) (rids : FollowRids l.rid rs) (rid_now : new.rid ≡ last_rid l.rid rs) (u : IsUndamaged l a.now.disk) where
-  abbrev cap : ℕ
-  cap = capacity_in l.opening
-
-  abbrev ws : List Record
-  ws = with_fillers rs
-
-  abbrev limit : ℕ
-  limit = end_of l
-
-  abbrev old_files : List Headed
-  old_files = files_on l.opening a.now.disk
-
-  abbrev new_files : List Headed
-  new_files = files_on l.opening b.now.disk
-
-  abbrev begin : ℕ
-  begin = first_place old_files
-
-  abbrev first_rid : ℕ
-  first_rid = oldest_rid old_files
-
-  abbrev old : List Placed
-  old = epoch_reading true old_files
-
-  abbrev batch : List Placed
-  batch = laid_from limit ws
-
-  abbrev all : List Placed
-  all = old ++ batch
-
-  old_epoch : HaveEpoch l.opening.epoch old_files
-  old_epoch = those_epoch cap l.opening l.files old_files those_old sound.own
-
-  old_count : length old_files ≡ length l.files
-  old_count = those_count cap l.files old_files those_old
-
-  part : OldPart l new sound again left taken rs a mid b those_old lies opening files newest end_is some at_front
-  part = old_part l new sound again left taken rs a mid b those_old lies opening files newest end_is some at_front
-
-  first_now : first_place new_files ≡ begin
-  first_now = first_is l new sound again left taken rs a mid b those_old lies opening files newest end_is some at_front reads r came
-
-  reading_now : epoch_reading true new_files ≡ all
-  reading_now = reading_new l new sound again left taken rs a mid b those_old lies opening files newest end_is some at_front reads r came
-
-  own_now : AreThoseFiles cap new.files new_files
-  own_now = those_own l new sound again left taken rs a mid b those_old lies opening files newest end_is some at_front
-
-  epoch_now : HaveEpoch l.opening.epoch new_files
-  epoch_now = new_epoch l new sound again left taken rs a mid b those_old lies opening files newest end_is some at_front
-
-  oldest_now : oldest_rid new_files ≡ first_rid
-  oldest_now = ap oldest_rid part.is ∙ oldest_same old_files part.gs part.more part.heads (omega (arith, old_count, sound.some))
-
-  filled : FollowRids l.rid ws
-  filled = follow_filled l.rid rs one rids
-
-  before : AllBefore limit old
-  before = all_before old_files begin limit old (old_stands l new sound again left taken rs a mid b those_old lies opening files newest end_is some at_front reads r came) (omega (arith, r.ends))
-
-  in_order : AllByRecursion (InOrder first_rid all) batch
-  in_order = laid_in_order first_rid l.rid limit old ws filled before u.rid
-
-  times_one : (n c : ℕ) → 0 < n → c * n ≡ (n - 1) * c + c
-  times_one n c h = ap (λ k. c * k) (omega (arith, h)) ∙ step (n - 1) c
-    where
-      step : (k c : ℕ) → c * (k + 1) ≡ k * c + c
-      step k c = grind arith
-
-  old_kept : AllKeep begin (end_from begin all) first_rid all 0 part.gs
-  old_kept =
-      files_stay begin limit first_rid old batch r.ends (laid_ascend limit ws) before in_order cap 0 old_files part.gs (all_capacity cap l.files old_files those_old) part.heads
-      (omega (arith, times_one (length l.files) cap sound.some, ap (λ n. cap * n) old_count))
-      (subst (λ q. AllKeep begin q first_rid old 0 old_files) r.ends (keeps_rules l.opening.epoch l.opening.kind l.opening.name old_files old_epoch u.reading))
-
-  new_kept : AllKeep begin (end_from begin all) first_rid all ((length l.files - 1) * cap + cap) part.more
-  new_kept =
-      files_come begin ((length l.files - 1) * cap) l.used first_rid l.rid old ws r.ends before u.rid in_order cap cap (fresh_count cap (l.used + block_length (length_of rs))) l.opening l.newest fs taken part.more planned headers
-      part.those_more sound.used.1
-
-  zero_plus : (n : ℕ) → 0 + n ≡ n
-  zero_plus n = omega arith
-
-  all_kept : AllKeep begin (end_from begin all) first_rid all 0 (part.gs ++ part.more)
-  all_kept =
-      keep_append begin (end_from begin all) first_rid all 0 part.gs part.more old_kept
-      (subst (λ n. AllKeep begin (end_from begin all) first_rid all n part.more)
-      (sym (zero_plus (length (stream part.gs)) ∙ same_length old_files part.gs part.heads ∙ old_size l new sound again left taken rs a mid b those_old lies opening files newest end_is some at_front)) new_kept)
-
-  now_kept : AllKeep (first_place new_files) (end_from (first_place new_files) (epoch_reading true new_files)) (oldest_rid new_files) (epoch_reading true new_files) 0 new_files
-  now_kept = subst (λ (X : Type 0). X) (sym (λ i. AllKeep (first_now i) (end_from (first_now i) (reading_now i)) (oldest_now i) (reading_now i) 0 (part.is i))) all_kept
-
-  pub stays_undamaged : IsUndamaged new b.now.disk
-  stays_undamaged = record {
-    chain =
-        subst (λ (o : Opening). chain_claims (files_on o b.now.disk) ≡ Ok tt) (sym opening)
-        (chain_of cap new.opening (new.newest + 1 - length new.files) new.newest new.files new_files again.numbers again.own own_now);
-    reading =
-        subst (λ (o : Opening). reading_claims (record { kind = o.kind; name = o.name; files = files_on o b.now.disk }) ≡ Ok tt) (sym opening)
-        (rules_kept l.opening.epoch l.opening.kind l.opening.name new_files epoch_now now_kept);
-    rid =
-        ap (λ (o : Opening). rid_at_end (oldest_rid (files_on o b.now.disk)) (epoch_reading true (files_on o b.now.disk))) opening
-        ∙ ap₂ rid_at_end oldest_now reading_now ∙ rid_at_end-append first_rid old batch ∙ ap (λ n. rid_at_end n batch) u.rid
-        ∙ rid_laid l.rid limit ws filled ∙ last_filled l.rid rs one ∙ sym rid_now;
-  }
-
 -- ---- told
 
 module _ (l : LogState) (sound : IsSound l) (flushed : l.unsynced ≡ []) (pool left : PoolState) (taken : List HeadedFile) (fs : List FreshFile) (headers : AreHeaded l.opening l.newest fs taken)
     (legal : AllByRecursion (λ h. IsTrue (is_legal_header h.header)) taken) (rs : List Record) (records : AllByRecursion (λ r. IsTrue (is_legal Two r)) (with_fillers rs))
     (some : 0 < length (batch_bytes l taken rs)) (count : length taken ≡ (l.used + length (batch_bytes l taken rs) - 1) / capacity_in l.opening)
-    (new : LogState) (opening : new.opening ≡ l.opening) (files : new.files ≡ l.files ++ taken) (used : new.used + capacity_in l.opening * length taken ≡ l.used + length (batch_bytes l taken rs))
+    (new : LogState) (opening : new.opening ≡ l.opening) (files : new.files ≡ l.files ++ taken) (older : new.older ≡ l.older) (used : new.used + capacity_in l.opening * length taken ≡ l.used + length (batch_bytes l taken rs))
     (newest : new.newest ≡ l.newest + length taken) (again : IsSound new) (planned : fs ≡ (plan_of rs l.used (capacity_in l.opening) l.rid).fresh)
     (one : 0 < length rs) (rids : FollowRids l.rid rs) (rid_now : new.rid ≡ last_rid l.rid rs) where
   stays : (a mid b : Content) → TakesFiles l.opening.home pool left taken a mid → b ≡ with_parts (capacity_in l.opening) (ids (written_files l taken)) (written_place l) (batch_bytes l taken rs) mid
@@ -218,10 +100,10 @@ module _ (l : LogState) (sound : IsSound l) (flushed : l.unsynced ≡ []) (pool 
       let added : Added a b lying.got.since =
       added_by (capacity_in l.opening) (ids (written_files l taken)) (written_place l) (batch_bytes l taken rs) a mid b lying.got.since lying.got.moments w in
       λ unmarked reads r u.
-      stays_undamaged l new sound again left taken rs a mid b h.there.files lying opening files newest end_is
+      stays_undamaged l new sound again left taken rs a mid b h.there.files lying opening files older newest end_is
       (subst (λ n. 0 < n) (length-spelled_over (capacity_in l.opening) (serials (from_newest l taken)) l.used (with_fillers rs)) some)
       (begins_at_front l rs fs taken (sound_capacity l.opening sound.opening).0 headers planned) reads r
-      (lying.got.unmarked (unmarked_front a.now lying.got.since added.writes (subst (AllUnmarked a.now) added.added unmarked))) fs headers planned one rids rid_now u
+      (lying.got.unmarked (unmarked_front a.now lying.got.since added.writes (subst (AllUnmarked a.now) added.added unmarked))) fs headers legal planned one rids rid_now u
 
   pub told_stays : (a mid b : Option Content) → Tells (TakesFiles l.opening.home pool left taken) a mid
       → Tells (WritesAll (capacity_in l.opening) (ids (written_files l taken)) (written_place l) (batch_bytes l taken rs)) mid b
@@ -241,7 +123,9 @@ still_undamaged l d e same u =
     record {
       chain = ap chain_claims files ∙ u.chain;
       reading = ap (λ (i : Image). reading_claims (journal (map headed (in_use i)) l.opening.kind l.opening.name)) same ∙ u.reading;
-      rid = ap (λ (fs : List Headed). rid_at_end (oldest_rid fs) (epoch_reading true fs)) files ∙ u.rid;
+      past = ap (λ (i : Image). past_files (journal (map headed (in_use i)) l.opening.kind l.opening.name)) same ∙ u.past;
+      rid =
+          ap (λ (i : Image). let j = journal (map headed (in_use i)) l.opening.kind l.opening.name in rid_of_reads (oldest_rid j.files) (journal_reading j)) same ∙ u.rid;
     }
 
 pub told_still_undamaged : (l : LogState) (ids : List ℕ) (r : Result (Unit {0}) SiteError) (a b : Option Content) → Tells (Syncs ids r) a b → Carries (IsUndamaged l) (IsUndamaged (flushed l)) a b

@@ -26,7 +26,7 @@ use Rattle.qls_laws.proofs.Claimed.{claims}
 use Rattle.qls_laws.proofs.Undamaged.{whole_is_undamaged}
 use Rattle.qls_pool.specs.Files.{HeadedFile, IdsDiffer}
 use Rattle.qls_log.specs.declared.opening.Opening.{Opening}
-use Rattle.qls_log.specs.Logs.{LogState, IsSound, IsOfOpening, capacity_in}
+use Rattle.qls_log.specs.Logs.{LogState, IsSound, IsOfJournal, capacity_in}
 use Rattle.qls_log.specs.Standing.{files_on, AreThoseFiles, LogThere}
 use Rattle.qls_log.specs.Soundness.{IsUndamaged, BelongsToLog, AllBelongToLogs}
 use Rattle.qls_log.proofs.Splits.{heads, mine, by_number-back}
@@ -43,7 +43,7 @@ record IsShown (o : Opening) (d : Disk) (f : Headed) : Type 0 where
   bytes : take 4096 (bytes_at file.id d) ≡ header_spelling file.header
   kib : file.header.kib ≡ o.home.kib
 
-all_shown : (o : Opening) (d : Disk) (hs : List HeadedFile) (fs : List Headed) → AreThoseFiles (capacity_in o) hs fs → AllByRecursion (λ h. IsTrue (is_legal_header h.header)) hs → AllByRecursion (IsOfOpening o) hs
+all_shown : (o : Opening) (d : Disk) (hs : List HeadedFile) (fs : List Headed) → AreThoseFiles (capacity_in o) hs fs → AllByRecursion (λ h. IsTrue (is_legal_header h.header)) hs → AllByRecursion (IsOfJournal o) hs
     → AllByRecursion (λ h. take 4096 (bytes_at h.id d) ≡ header_spelling h.header) hs → AllByRecursion (IsShown o d) fs
 all_shown o d [] [] t legal own bytes = tt
 all_shown o d [] (f ∷ fs) t legal own bytes = absurd t
@@ -78,7 +78,7 @@ of_log : (l : LogState) (d : Disk) → IsSound l → LogThere l d → AllByRecur
 of_log l d sound there =
     map_back (λ f. is_of l.opening.kind l.opening.name f ≡ true → IsShown l.opening d f) (in_use (full d))
     (filter_back (IsShown l.opening d) (is_of l.opening.kind l.opening.name) (heads d)
-    (by_number-back (IsShown l.opening d) (mine l.opening.kind l.opening.name d) (all_shown l.opening d l.files (files_on l.opening d) there.there.files sound.legal sound.own there.there.headers)))
+    (by_number-back (IsShown l.opening d) (mine l.opening.kind l.opening.name d) (all_shown l.opening d l.files (files_on l.opening d) there.there.files sound.legal sound.all there.there.headers)))
 
 -- ---- bytes
 

@@ -18,17 +18,19 @@ use Rattle.qls_laws.proofs.Leftover.{AllBefore, before_later, first_past, ats_ap
 use Rattle.qls_laws.proofs.Rising.{given_is}
 use Rattle.qls_laws.proofs.Claimed.{InOrder, in_file, KeepsRules, AllKeep, ok_next}
 use Rattle.qls_blocks.specs.declared.plan.FreshFile.{FreshFile}
-use Rattle.qls_blocks.specs.Batching.{filler_count, filler_of, last_rid, with_fillers, laid_from}
+use Rattle.qls_blocks.specs.Batching.{filler_count, filler_of, last_rid, with_fillers, laid_from, places_from}
 use Rattle.qls_blocks.specs.Plans.{fresh_file, starts}
 use Rattle.qls_blocks.specs.Laws.{HaveCapacity}
 use Rattle.qls_blocks.proofs.Stream.{places-laid, first_in-shifted, rid_before-shifted}
 use Rattle.qls_pool.specs.Files.{HeadedFile}
 use Rattle.qls_log.specs.declared.opening.Opening.{Opening}
-use Rattle.qls_log.specs.Logs.{IsOfOpening, NumberedFrom, AreHeaded}
+use Rattle.qls_log.specs.Logs.{IsOfOpening, IsOfJournal, NumberedFrom, AreHeaded}
 use Rattle.qls_log.specs.Standing.{AreThoseFiles}
 use Rattle.qls_log.specs.Appending.{FollowRids}
 use Rattle.qls_log.proofs.Fits.{rid_behind, rid_of_some}
 use Rattle.qls_log.proofs.Streams.{HaveSameHeads}
+use Rattle.qls_log.proofs.Older.{of_journal}
+use Rattle.qls_epochs.specs.Joins.{ComesNext}
 
 less : (m n : ℕ) → m < n → ltb m n ≡ true
 less m n h = grind (arith, nat_tests)
@@ -47,6 +49,27 @@ equal m n e = grind (arith, nat_tests)
 next_number : (n newest : ℕ) (h : HeadedFile) (hs : List HeadedFile) → NumberedFrom n (h ∷ hs) newest → h.header.number ≡ n
 next_number n newest h hs m = m.0
 
+-- a file of the journal follows the one whose number is one less, where its epoch isn't less
+follows : (o : Opening) (h k : HeadedFile) (f g : Headed) → IsOfJournal o h → IsOfJournal o k → f.header ≡ h.header → g.header ≡ k.header → k.header.number ≡ h.header.number + 1 → h.header.epoch ≤ k.header.epoch → next_claims f g ≡ Ok tt
+follows o h k f g a b one two next least =
+    ap (of_file g.id)
+    (λ i. claim (equal g.header.number (f.header.number + 1) number i) rule.Number >> (claim (most f.header.epoch g.header.epoch epoch i) rule.Epoch >> claim (equal g.header.part f.header.part part i && equal g.header.kib f.header.kib kib i) rule.Home))
+  where
+    number : g.header.number ≡ f.header.number + 1
+    number = ap (λ (x : FileHeader). x.number) two ∙ next ∙ ap (λ i. i + 1) (sym (ap (λ (x : FileHeader). x.number) one))
+
+    epoch : f.header.epoch ≤ g.header.epoch
+    epoch = subst (λ (x : FileHeader). x.epoch ≤ g.header.epoch) (sym one) (subst (λ (x : FileHeader). h.header.epoch ≤ x.epoch) (sym two) least)
+
+    part : g.header.part ≡ f.header.part
+    part = ap (λ (x : FileHeader). x.part) (two ∙ b) ∙ sym (ap (λ (x : FileHeader). x.part) (one ∙ a))
+
+    kib : g.header.kib ≡ f.header.kib
+    kib = ap (λ (x : FileHeader). x.kib) (two ∙ b) ∙ sym (ap (λ (x : FileHeader). x.kib) (one ∙ a))
+
+    most : (a b : ℕ) → a ≤ b → leb a b ≡ true
+    most a b e = grind (arith, nat_tests)
+
 -- files of one opening whose numbers count on follow one another
 pub chain_of : (cap : ℕ) (o : Opening) (n newest : ℕ) (hs : List HeadedFile) (fs : List Headed) → NumberedFrom n hs newest → AllByRecursion (IsOfOpening o) hs → AreThoseFiles cap hs fs → chain_claims fs ≡ Ok tt
 chain_of cap o n newest [] [] m own t = refl
@@ -56,35 +79,22 @@ chain_of cap o n newest (h ∷ []) (f ∷ []) m own t = refl
 chain_of cap o n newest (h ∷ []) (f ∷ g ∷ fs) m own t = absurd t.1
 chain_of cap o n newest (h ∷ k ∷ hs) (f ∷ []) m own t = absurd t.1
 chain_of cap o n newest (h ∷ k ∷ hs) (f ∷ g ∷ fs) m own t =
-    ok_next (next_claims f g) (chain_claims (g ∷ fs)) follows (chain_of cap o (n + 1) newest (k ∷ hs) (g ∷ fs) m.1 own.1 t.1)
-  where
-    one : f.header ≡ h.header
-    one = t.0.header
+    let next : k.header.number ≡ h.header.number + 1 = m.1.0 ∙ ap (λ i. i + 1) (sym m.0) in
+    let epoch : h.header.epoch ≡ k.header.epoch = ap (λ (x : FileHeader). x.epoch) own.0 ∙ sym (ap (λ (x : FileHeader). x.epoch) own.1.0) in
+    ok_next (next_claims f g) (chain_claims (g ∷ fs)) (follows o h k f g (of_journal o h own.0) (of_journal o k own.1.0) t.0.header t.1.0.header next (omega (arith, epoch)))
+    (chain_of cap o (n + 1) newest (k ∷ hs) (g ∷ fs) m.1 own.1 t.1)
 
-    two : g.header ≡ k.header
-    two = t.1.0.header
-
-    number : g.header.number ≡ f.header.number + 1
-    number = ap (λ (x : FileHeader). x.number) two ∙ m.1.0 ∙ ap (λ i. i + 1) (sym (ap (λ (x : FileHeader). x.number) one ∙ m.0))
-
-    epoch : g.header.epoch ≡ f.header.epoch
-    epoch = ap (λ (x : FileHeader). x.epoch) (two ∙ own.1.0) ∙ sym (ap (λ (x : FileHeader). x.epoch) (one ∙ own.0))
-
-    part : g.header.part ≡ f.header.part
-    part = ap (λ (x : FileHeader). x.part) (two ∙ own.1.0) ∙ sym (ap (λ (x : FileHeader). x.part) (one ∙ own.0))
-
-    kib : g.header.kib ≡ f.header.kib
-    kib = ap (λ (x : FileHeader). x.kib) (two ∙ own.1.0) ∙ sym (ap (λ (x : FileHeader). x.kib) (one ∙ own.0))
-
-    most : (a b : ℕ) → b ≡ a → leb a b ≡ true
-    most a b e = grind (arith, nat_tests)
-
-    follows : next_claims f g ≡ Ok tt
-    follows = same_file (claim (eqb g.header.number (f.header.number + 1)) rule.Number >> (claim (leb f.header.epoch g.header.epoch) rule.Epoch >> claim (eqb g.header.part f.header.part && eqb g.header.kib f.header.kib) rule.Home))
-        (λ i. claim (equal g.header.number (f.header.number + 1) number i) rule.Number >> (claim (most f.header.epoch g.header.epoch epoch i) rule.Epoch >> claim (equal g.header.part f.header.part part i && equal g.header.kib f.header.kib kib i) rule.Home))
-      where
-        same_file : (r : Result (Unit {0}) Rattle.qls_filehdr.specs.declared.Rule.Rule) → r ≡ Ok tt → of_file g.id r ≡ Ok tt
-        same_file r e = ap (of_file g.id) e
+-- the first file of an opening comes next behind those of earlier ones
+pub comes_next : (cap : ℕ) (o : Opening) (n newest : ℕ) (hs : List HeadedFile) (k : HeadedFile) (ks : List HeadedFile) (fs : List Headed) (g : Headed) → NumberedFrom n (hs ++ k ∷ ks) newest → AllByRecursion (IsOfJournal o) hs → IsOfJournal o k
+    → AllByRecursion (λ h. h.header.epoch < k.header.epoch) hs → AreThoseFiles cap hs fs → g.header ≡ k.header → ComesNext fs g
+comes_next cap o n newest [] k ks [] g m all one less t e = tt
+comes_next cap o n newest [] k ks (f ∷ fs) g m all one less t e = absurd t
+comes_next cap o n newest (h ∷ hs) k ks [] g m all one less t e = absurd t
+comes_next cap o n newest (h ∷ []) k ks (f ∷ []) g m all one less t e =
+    follows o h k f g all.0 one t.0.header e (m.1.0 ∙ ap (λ i. i + 1) (sym m.0)) (omega (arith, less.0))
+comes_next cap o n newest (h ∷ []) k ks (f ∷ x ∷ fs) g m all one less t e = absurd t.1
+comes_next cap o n newest (h ∷ j ∷ hs) k ks (f ∷ []) g m all one less t e = absurd t.1
+comes_next cap o n newest (h ∷ j ∷ hs) k ks (f ∷ x ∷ fs) g m all one less t e = comes_next cap o (n + 1) newest (j ∷ hs) k ks (x ∷ fs) g m.1 all.1 one less.1 t.1 e
 
 -- ---- rids
 
@@ -207,10 +217,25 @@ module _ (begin limit rid : ℕ) (xs ys : List Placed) (ends : end_from begin xs
 
 -- ---- the files that were taken
 
-module _ (begin k used rid at_end : ℕ) (xs : List Placed) (ws : List Record) (ends : end_from begin xs ≡ k + used) (before : AllBefore (k + used) xs) (is : rid_at_end rid xs ≡ at_end)
-    (batch : AllByRecursion (InOrder rid (xs ++ laid_from (k + used) ws)) (laid_from (k + used) ws)) where
+-- the same batch, counted from another place on
+first_elsewhere : (q used j cap : ℕ) (ws : List Record) → first_in (used + j) cap (places_from used ws) ≡ first_in (q + j) cap (places_from q ws)
+first_elsewhere q used j cap ws =
+    ap (λ n. first_in (used + j) cap (places_from n ws)) (plus used) ∙ first_in-shifted used j cap 0 ws ∙ sym (ap (λ n. first_in (q + j) cap (places_from n ws)) (plus q) ∙ first_in-shifted q j cap 0 ws)
+  where
+    plus : (n : ℕ) → n ≡ n + 0
+    plus n = omega arith
+
+rid_elsewhere : (q used j rid : ℕ) (ws : List Record) → rid_before rid (laid_from used ws) (used + j) ≡ rid_before rid (laid_from q ws) (q + j)
+rid_elsewhere q used j rid ws =
+    ap (λ n. rid_before rid (laid_from n ws) (used + j)) (plus used) ∙ rid_before-shifted used j rid 0 ws ∙ sym (ap (λ n. rid_before rid (laid_from n ws) (q + j)) (plus q) ∙ rid_before-shifted q j rid 0 ws)
+  where
+    plus : (n : ℕ) → n ≡ n + 0
+    plus n = omega arith
+
+module _ (begin q used rid at_end : ℕ) (xs : List Placed) (ws : List Record) (ends : end_from begin xs ≡ q) (before : AllBefore q xs) (is : rid_at_end rid xs ≡ at_end)
+    (batch : AllByRecursion (InOrder rid (xs ++ laid_from q ws)) (laid_from q ws)) where
   abbrev ys : List Placed
-  ys = laid_from (k + used) ws
+  ys = laid_from q ws
 
   abbrev whole : List Placed
   whole = xs ++ ys
@@ -218,36 +243,37 @@ module _ (begin k used rid at_end : ℕ) (xs : List Placed) (ws : List Record) (
   abbrev till : ℕ
   till = end_from begin (xs ++ ys)
 
-  till_is : till ≡ end_from (k + used) ys
+  till_is : till ≡ end_from q ys
   till_is = end_from-append begin xs ys ∙ ap (λ p. end_from p ys) ends
 
-  file_comes : (cap s size : ℕ) (h : FileHeader) → size ≡ cap → k + used ≤ k + s → h.first ≡ (fresh_file cap at_end used ws s).first → h.rid ≡ (fresh_file cap at_end used ws s).rid
-      → KeepsRules begin till rid whole (k + s) size h
-  file_comes cap s size h e late first rid_of = record {
-    first = λ l m.
-        first ∙ sym (first_in-shifted k s cap used ws) ∙ ap (first_in (k + s) cap) (sym (places-laid (k + used) ws)) ∙ ap (λ q. first_in (k + s) cap (ats ys ++ q ∷ [])) (sym till_is)
-        ∙ sym (first_past (k + s) cap xs (ats ys ++ till ∷ []) (before_later (k + used) (k + s) xs late before)) ∙ ap (first_in (k + s) cap) (sym (ats_append xs ys (till ∷ []))) ∙ ap (λ n. first_in (k + s) n (ats whole ++ till ∷ [])) (sym e);
-    rid_is = λ l m.
-        rid_of ∙ sym (rid_before-shifted k s at_end used ws) ∙ ap (λ n. rid_before n ys (k + s)) (sym is) ∙ sym (rid_past (k + s) xs ys rid (before_later (k + used) (k + s) xs late before));
-    order =
-        subst (AllByRecursion (InOrder rid whole)) (sym (filter-append (in_file (k + s) size) xs ys ∙ ap (λ (zs : List Placed). zs ++ filter (in_file (k + s) size) ys) (none_in (k + s) size xs (before_later (k + used) (k + s) xs late before))))
-        (All-filter (InOrder rid whole) (in_file (k + s) size) ys batch);
-  }
+  file_comes : (cap j size : ℕ) (h : FileHeader) → size ≡ cap → h.first ≡ (fresh_file cap at_end used ws (used + j)).first → h.rid ≡ (fresh_file cap at_end used ws (used + j)).rid → KeepsRules begin till rid whole (q + j) size h
+  file_comes cap j size h e first rid_of =
+      let early : AllBefore (q + j) xs = before_later q (q + j) xs (omega arith) before in
+      record {
+        first = λ l m.
+            first ∙ first_elsewhere q used j cap ws ∙ ap (first_in (q + j) cap) (sym (places-laid q ws)) ∙ ap (λ p. first_in (q + j) cap (ats ys ++ p ∷ [])) (sym till_is)
+            ∙ sym (first_past (q + j) cap xs (ats ys ++ till ∷ []) early) ∙ ap (first_in (q + j) cap) (sym (ats_append xs ys (till ∷ []))) ∙ ap (λ n. first_in (q + j) n (ats whole ++ till ∷ [])) (sym e);
+        rid_is = λ l m. rid_of ∙ rid_elsewhere q used j at_end ws ∙ ap (λ n. rid_before n ys (q + j)) (sym is) ∙ sym (rid_past (q + j) xs ys rid early);
+        order =
+            subst (AllByRecursion (InOrder rid whole)) (sym (filter-append (in_file (q + j) size) xs ys ∙ ap (λ (zs : List Placed). zs ++ filter (in_file (q + j) size) ys) (none_in (q + j) size xs early)))
+            (All-filter (InOrder rid whole) (in_file (q + j) size) ys batch);
+      }
 
-  pub files_come : (cap s n : ℕ) (o : Opening) (newest : ℕ) (fs : List FreshFile) (taken : List HeadedFile) (more : List Headed) → fs ≡ map (fresh_file cap at_end used ws) (starts cap s n) → AreHeaded o newest fs taken
-      → AreThoseFiles cap taken more → used ≤ s → AllKeep begin till rid whole (k + s) more
-  files_come cap s n o newest fs [] [] e t those low = tt
-  files_come cap s n o newest fs [] (f ∷ more) e t those low = absurd those
-  files_come cap s n o newest fs (h ∷ taken) [] e t those low = absurd those
-  files_come cap s zero o newest [] (h ∷ taken) (f ∷ more) e t those low = absurd t
-  files_come cap s zero o newest (x ∷ fs) (h ∷ taken) (f ∷ more) e t those low = absurd (cc)
-  files_come cap s (suc n) o newest [] (h ∷ taken) (f ∷ more) e t those low = absurd t
-  files_come cap s (suc n) o newest (x ∷ fs) (h ∷ taken) (f ∷ more) e t those low =
-      let here : x ≡ fresh_file cap at_end used ws s = cc in
-      let rest : fs ≡ map (fresh_file cap at_end used ws) (starts cap (s + cap) n) = cc in
+  pub files_come : (cap j n : ℕ) (o : Opening) (newest : ℕ) (fs : List FreshFile) (taken : List HeadedFile) (more : List Headed) → fs ≡ map (fresh_file cap at_end used ws) (starts cap (used + j) n) → AreHeaded o newest fs taken
+      → AreThoseFiles cap taken more → AllKeep begin till rid whole (q + j) more
+  files_come cap j n o newest fs [] [] e t those = tt
+  files_come cap j n o newest fs [] (f ∷ more) e t those = absurd those
+  files_come cap j n o newest fs (h ∷ taken) [] e t those = absurd those
+  files_come cap j zero o newest [] (h ∷ taken) (f ∷ more) e t those = absurd t
+  files_come cap j zero o newest (x ∷ fs) (h ∷ taken) (f ∷ more) e t those = absurd (cc)
+  files_come cap j (suc n) o newest [] (h ∷ taken) (f ∷ more) e t those = absurd t
+  files_come cap j (suc n) o newest (x ∷ fs) (h ∷ taken) (f ∷ more) e t those =
+      let here : x ≡ fresh_file cap at_end used ws (used + j) = cc in
+      let rest : fs ≡ map (fresh_file cap at_end used ws) (starts cap (used + j + cap) n) = cc in
       let header : f.header ≡ Rattle.qls_log.specs.Logs.header_for o h.header.serial (newest + 1) x = those.0.header ∙ t.0 in (
-        file_comes cap s (length f.area) f.header those.0.area (omega (arith, low)) (ap (λ (y : FileHeader). y.first) header ∙ ap (λ (y : FreshFile). y.first) here) (ap (λ (y : FileHeader). y.rid) header ∙ ap (λ (y : FreshFile). y.rid) here),
-        subst (λ m. AllKeep begin till rid whole m more) (ap (λ c. k + s + c) (sym those.0.area) ∙ refl) (subst (λ m. AllKeep begin till rid whole m more) (add k s cap) (files_come cap (s + cap) n o (newest + 1) fs taken more rest t.1 those.1 (omega (arith, low)))),
+        file_comes cap j (length f.area) f.header those.0.area (ap (λ (y : FileHeader). y.first) header ∙ ap (λ (y : FreshFile). y.first) here) (ap (λ (y : FileHeader). y.rid) header ∙ ap (λ (y : FreshFile). y.rid) here),
+        subst (λ m. AllKeep begin till rid whole m more) (add q j cap ∙ ap (λ c. q + j + c) (sym those.0.area))
+            (files_come cap (j + cap) n o (newest + 1) fs taken more (rest ∙ ap (λ m. map (fresh_file cap at_end used ws) (starts cap m n)) (sym (add used j cap))) t.1 those.1),
       )
     where
       add : (a b c : ℕ) → a + (b + c) ≡ a + b + c

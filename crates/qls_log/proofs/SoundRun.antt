@@ -1,5 +1,5 @@
--- The journal of a log without damage is read up to its newest file.
-use Rattle.std.proofs.Common.{◌≡◌, ◌⊎◌, inl, inr, ℕ, suc, ◌+◌, ◌-◌, ◌*◌, ◌%◌, ◌<◌, ◌≤◌, Bool, true, false, cond, ◌&&◌, ◌||◌, ◌==◌, nat_le, ltb, List, [], ◌∷◌, length, IsTrue, refl, sym, ap, ◌∙◌, subst, arith}
+-- The journal of a log without damage is whole, and of one epoch where the log has no files of earlier openings.
+use Rattle.std.proofs.Common.{◌≡◌, ◌⊎◌, inl, inr, ℕ, suc, ◌+◌, ◌-◌, ◌*◌, ◌%◌, ◌<◌, ◌≤◌, Bool, true, false, cond, ◌&&◌, ◌||◌, ◌==◌, nat_le, ltb, List, [], ◌∷◌, length, drop, IsTrue, refl, ap, ◌∙◌, subst, arith}
 use Rattle.std.proofs.lemmas.Bool.{and_parts}
 use Rattle.std.proofs.lemmas.Bool.Decides.{nat_tests}
 use Rattle.std.specs.List.{AllByRecursion}
@@ -8,29 +8,26 @@ use Rattle.qls_site.specs.Disk.{Disk}
 use Rattle.qls_filehdr.specs.declared.FileHeader.{FileHeader}
 use Rattle.qls_filehdr.specs.Limits.{is_legal_header}
 use Rattle.qls_filehdr.proofs.HeaderTrip.{legal_parts, most_of}
-use Rattle.qls_meaning.specs.Journals.{Headed, epochs}
-use Rattle.qls_meaning.specs.Reading.{Read, epoch_end}
-use Rattle.qls_meaning.specs.Dead.{after_end, past_in}
+use Rattle.qls_meaning.specs.Journals.{Headed}
+use Rattle.qls_meaning.specs.Dead.{after_end}
 use Rattle.qls_meaning.specs.Orderly.{journal_on}
 use Rattle.qls_laws.specs.Returns.{HasPlaces, IsWholeRun}
-use Rattle.qls_laws.proofs.Claimed.{HaveEpoch, one_run}
+use Rattle.qls_epochs.specs.Whole.{IsWhole}
 use Rattle.qls_blocks.specs.Laws.{HaveCapacity}
 use Rattle.qls_pool.specs.Files.{HeadedFile}
 use Rattle.qls_pool.proofs.Disks.{eqb_is}
 use Rattle.qls_log.specs.declared.opening.Opening.{Opening}
-use Rattle.qls_log.specs.Logs.{LogState, IsSound, IsOfOpening, capacity_in}
+use Rattle.qls_log.specs.Logs.{LogState, IsSound, IsOfOpening, IsOfJournal, capacity_in}
 use Rattle.qls_log.specs.Standing.{files_on, AreThoseFiles, LogThere}
-use Rattle.qls_log.specs.Reads.{IsRead}
 use Rattle.qls_log.specs.Soundness.{IsUndamaged}
-use Rattle.qls_log.proofs.Appends.{all_capacity}
 use Rattle.qls_log.proofs.Appended.{sound_capacity}
-use Rattle.qls_log.proofs.Behind.{those_count, those_epoch}
+use Rattle.qls_log.proofs.Older.{those_epoch}
 
 or_cases : (a b : Bool) → (a || b) ≡ true → (a ≡ true) ⊎ (b ≡ true)
 or_cases true b e = inl refl
 or_cases false b e = inr e
 
-has_places : (o : Opening) (h : HeadedFile) (f : Headed) → 0 < capacity_in o → IsTrue (is_legal_header h.header) → IsOfOpening o h → f.header ≡ h.header → length f.area ≡ capacity_in o → HasPlaces f
+has_places : (o : Opening) (h : HeadedFile) (f : Headed) → 0 < capacity_in o → IsTrue (is_legal_header h.header) → IsOfJournal o h → f.header ≡ h.header → length f.area ≡ capacity_in o → HasPlaces f
 has_places o h f some legal own header area = record {
   some = omega (arith, some, area);
   first =
@@ -52,7 +49,7 @@ has_places o h f some legal own header area = record {
         let within : h.header.first + 128 ≤ file_size h.header.kib = most_of (h.header.first + 128) (file_size h.header.kib) parts.1 in
         inr (omega (arith, past, first), omega (arith, past, within, kib, first, area))
 
-all_places : (o : Opening) (hs : List HeadedFile) (fs : List Headed) → 0 < capacity_in o → AreThoseFiles (capacity_in o) hs fs → AllByRecursion (λ h. IsTrue (is_legal_header h.header)) hs → AllByRecursion (IsOfOpening o) hs → AllByRecursion HasPlaces fs
+pub all_places : (o : Opening) (hs : List HeadedFile) (fs : List Headed) → 0 < capacity_in o → AreThoseFiles (capacity_in o) hs fs → AllByRecursion (λ h. IsTrue (is_legal_header h.header)) hs → AllByRecursion (IsOfJournal o) hs → AllByRecursion HasPlaces fs
 all_places o [] [] some t legal own = tt
 all_places o [] (f ∷ fs) some t legal own = absurd t
 all_places o (h ∷ hs) [] some t legal own = absurd t
@@ -62,7 +59,7 @@ not_less : (m n : ℕ) → n ≤ m → ltb m n ≡ false
 not_less m n h = grind (arith, nat_tests)
 
 -- a reading that ends in the last file has none behind it
-none_past : (room p : ℕ) (fs : List Headed) → HaveCapacity room fs → (length fs - 1) * room ≤ p → after_end p fs ≡ []
+pub none_past : (room p : ℕ) (fs : List Headed) → HaveCapacity room fs → (length fs - 1) * room ≤ p → after_end p fs ≡ []
 none_past room p [] have l = refl
 none_past room p (f ∷ []) have l = last (ltb p (length f.area))
   where
@@ -84,21 +81,21 @@ none_past room p (f ∷ g ∷ fs) have l =
     product : (n c : ℕ) → (n + 1) * c ≡ n * c + c
     product n c = grind arith
 
-past_of_run : (e : ℕ) (fs : List Headed) → HaveEpoch e fs → after_end (epoch_end true fs) fs ≡ [] → past_in true (epochs fs) ≡ []
-past_of_run e [] one h = refl
-past_of_run e (f ∷ fs) one h = ap (past_in true) (one_run e f fs one) ∙ h
+pub log_places : (l : LogState) (d : Disk) → IsSound l → AreThoseFiles (capacity_in l.opening) l.files (files_on l.opening d) → AllByRecursion HasPlaces (files_on l.opening d)
+log_places l d sound those = all_places l.opening l.files (files_on l.opening d) (sound_capacity l.opening sound.opening).0 those sound.legal sound.all
 
-pub log_is_whole : (l : LogState) (d : Disk) (reads : List Read) → IsSound l → LogThere l d → IsUndamaged l d → IsRead l reads d → IsWholeRun (journal_on d l.opening.kind l.opening.name)
-log_is_whole l d reads sound there u r =
-    let fs : List Headed = files_on l.opening d in
-    let cap : ℕ = capacity_in l.opening in
-    let one : HaveEpoch l.opening.epoch fs = those_epoch cap l.opening l.files fs there.there.files sound.own in
-    let count : length fs ≡ length l.files = those_count cap l.files fs there.there.files in
-    let late : (length fs - 1) * cap ≤ epoch_end true fs = subst (λ n. (n - 1) * cap ≤ epoch_end true fs) (sym count) (omega (arith, r.ends)) in
+pub log_whole : (l : LogState) (d : Disk) → IsSound l → LogThere l d → IsUndamaged l d → IsWhole (journal_on d l.opening.kind l.opening.name)
+log_whole l d sound there u = record { places = log_places l d sound there.there.files; rules = record { chain = u.chain; reading = u.reading }; past = u.past }
+
+pub log_is_whole : (l : LogState) (d : Disk) → l.older ≡ 0 → IsSound l → LogThere l d → IsUndamaged l d → IsWholeRun (journal_on d l.opening.kind l.opening.name)
+log_is_whole l d none sound there u =
+    let whole = log_whole l d sound there u in
     record {
       epoch = l.opening.epoch;
-      one = one;
-      places = all_places l.opening l.files fs (sound_capacity l.opening sound.opening).0 there.there.files sound.legal sound.own;
-      rules = record { chain = u.chain; reading = u.reading };
-      past = past_of_run l.opening.epoch fs one (none_past cap (epoch_end true fs) fs (all_capacity cap l.files fs there.there.files) late);
+      one =
+          those_epoch (capacity_in l.opening) l.opening l.files (files_on l.opening d) there.there.files
+          (subst (λ n. AllByRecursion (IsOfOpening l.opening) (drop n l.files)) none sound.own);
+      places = whole.places;
+      rules = whole.rules;
+      past = whole.past;
     }

@@ -297,3 +297,33 @@ files-unlinked o id f c d s useful out own above =
     let before : Above g.header.number xs = all_above id g.header.number xs (mine_all (λ h. (h.id == id) ≡ false) o.kind o.name s.before s.lacks_before) all.0 in
     let after : Above g.header.number ys = all_above id g.header.number ys (mine_all (λ h. (h.id == id) ≡ false) o.kind o.name s.after s.lacks_after) all.1 in
     ap by_number old ∙ by_number-first g xs ys (join_all (λ h. g.header.number < h.header.number) xs ys before after) ∙ ap (λ (x : List Headed). g ∷ by_number x) (sym new)
+
+-- ---- the newest file of the journal leaves it
+
+-- it is the one, or has a lesser number
+abbrev pub IsOrBelow : ℕ → ℕ → Headed → Type 0
+IsOrBelow id n f = (f.id == id) ≡ false → f.header.number < n
+
+all_below : (id n : ℕ) (fs : List Headed) → AllByRecursion (λ f. (f.id == id) ≡ false) fs → AllByRecursion (IsOrBelow id n) fs → Below n fs
+all_below id n [] l h = tt
+all_below id n (f ∷ fs) l h = (h.0 l.0, all_below id n fs l.1 h.1)
+
+-- that file goes out of use, behind all others of its journal
+pub files-unlinked_last : (o : Opening) (id : ℕ) (f : FileState) (c : FileState → FileState) (d : Disk) → Split id f d → is_in_use f.place ≡ true → is_in_use (c f).place ≡ false
+    → is_of o.kind o.name (headed (full_file f)) ≡ true → AllByRecursion (IsOrBelow id (headed (full_file f)).header.number) (files_on o d)
+    → files_on o d ≡ files_on o (change_file id c d) ++ headed (full_file f) ∷ []
+files-unlinked_last o id f c d s useful out own below =
+    let g : Headed = headed (full_file f) in
+    let test = is_of o.kind o.name in
+    let xs = mine o.kind o.name s.before in
+    let ys = mine o.kind o.name s.after in
+    let old : mine o.kind o.name d ≡ xs ++ g ∷ ys =
+    ap (λ e. mine o.kind o.name e) s.is ∙ ap (filter test) (heads-append s.before (f ∷ s.after) ∙ ap (λ (x : List Headed). heads s.before ++ x) (heads-in f s.after useful))
+    ∙ filter-append test (heads s.before) (g ∷ heads s.after) ∙ ap (λ b. xs ++ cond b (g ∷ ys) ys) own in
+    let new : mine o.kind o.name (change_file id c d) ≡ xs ++ ys =
+    ap (λ e. mine o.kind o.name e) (change_split id f c d s) ∙ ap (filter test) (heads-append s.before (c f ∷ s.after) ∙ ap (λ (x : List Headed). heads s.before ++ x) (heads-out (c f) s.after out))
+    ∙ filter-append test (heads s.before) (heads s.after) in
+    let all = cut_all (IsOrBelow id g.header.number) g xs ys (subst (AllByRecursion (IsOrBelow id g.header.number)) old (by_number-back (IsOrBelow id g.header.number) (mine o.kind o.name d) below)) in
+    let before : Below g.header.number xs = all_below id g.header.number xs (mine_all (λ h. (h.id == id) ≡ false) o.kind o.name s.before s.lacks_before) all.0 in
+    let after : Below g.header.number ys = all_below id g.header.number ys (mine_all (λ h. (h.id == id) ≡ false) o.kind o.name s.after s.lacks_after) all.1 in
+    ap by_number old ∙ by_number-insert g xs ys (join_all (λ h. h.header.number < g.header.number) xs ys before after) ∙ ap (λ (x : List Headed). by_number x ++ g ∷ []) (sym new)

@@ -27,7 +27,7 @@ use Rattle.qls_log.specs.Standing.{IsUnmarkedBehind, StandsWith, end_of}
 
 -- one file with number 1, first place 4,096 and rid 0, and no record
 abbrev pub new_log : Opening → HeadedFile → LogState
-new_log o h = record { opening = o; files = h ∷ []; newest = 1; used = 0; rid = 0; unsynced = []; ended = false }
+new_log o h = record { opening = o; files = h ∷ []; older = 0; newest = 1; used = 0; rid = 0; unsynced = []; ended = false }
 
 pub record IsNew (o : Opening) (l : LogState) : Type 0 where
   pub file : HeadedFile
@@ -61,6 +61,7 @@ pub record HasAppended (rs : List Record) (old new : LogState) (taken : List Hea
   pub headers : AreHeaded old.opening old.newest (plan_of rs old.used (capacity_in old.opening) old.rid).fresh taken
   pub opening : new.opening ≡ old.opening
   pub files : new.files ≡ old.files ++ taken
+  pub older : new.older ≡ old.older
   pub newest : new.newest ≡ old.newest + length taken
   pub used : new.used + capacity_in old.opening * length taken ≡ old.used + block_length (length_of rs)
   pub rid : new.rid ≡ last_rid old.rid rs

@@ -12,3 +12,5 @@ pub mod Returning
 pub mod Appending
 pub mod Reads
 pub mod Soundness
+pub mod Reopening
+pub mod Trimming

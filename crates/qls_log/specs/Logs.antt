@@ -1,23 +1,29 @@
--- What a log knows: its files of this opening, and where its next batch goes.
-use Rattle.std.specs.Prelude.{◌≡◌, ℕ, ◌+◌, ◌-◌, ◌*◌, ◌%◌, ◌^◌, ◌<◌, ◌≤◌, Bool, true, List, [], ◌∷◌, map, length, IsTrue}
+-- What a log knows: its files, and where its next batch goes.
+use Rattle.std.specs.Prelude.{◌≡◌, ℕ, ◌+◌, ◌-◌, ◌*◌, ◌%◌, ◌^◌, ◌<◌, ◌≤◌, Bool, true, List, [], ◌∷◌, map, length, take, drop, IsTrue}
 use Rattle.std.specs.List.{AllByRecursion}
 use Rattle.qls_model.specs.Limits.{is_partition, is_kib}
 use Rattle.qls_filehdr.specs.declared.FileHeader.{FileHeader}
-use Rattle.qls_filehdr.specs.Limits.{is_name, is_counter, is_first_place, is_legal_header}
+use Rattle.qls_filehdr.specs.Limits.{is_name, is_first_place, is_legal_header}
 use Rattle.qls_blocks.specs.declared.plan.FreshFile.{FreshFile}
 use Rattle.qls_pool.specs.Files.{HeadedFile, is_among}
 use Rattle.qls_log.specs.declared.opening.Opening.{Opening}
 
--- Files taken in this opening, oldest first, and the number of the newest file. So many bytes of the newest file's data area are
--- written; the rid is the one in force behind the last batch. The last batch lies pending in the files of these ids
+-- The files of the journal, oldest first, the first of which, so many, were taken in earlier openings; and the number of the newest
+-- file. So many bytes of the newest file's data area are written; the rid is the one in force behind the last batch. The last batch lies
+-- pending in the files of these ids
 pub record LogState : Type 0 where
   pub opening : Opening
   pub files : List HeadedFile
+  pub older : ℕ
   pub newest : ℕ
   pub used : ℕ
   pub rid : ℕ
   pub unsynced : List ℕ
   pub ended : Bool
+
+-- the log without its first files, so many of them
+abbrev pub without_first : ℕ → LogState → LogState
+without_first n l = record l { files = drop n l.files; older = l.older - n }
 
 abbrev pub capacity_in : Opening → ℕ
 capacity_in o = o.home.kib * 1024
@@ -38,11 +44,11 @@ header_for o serial number fresh = record {
   name = o.name;
 }
 
--- the home, the epoch and the name are within the limits
+-- The home, the epoch and the name are within the limits. The epoch may be the one past the last, with which no file can be taken
 pub record IsLegalOpening (o : Opening) : Type 0 where
   pub part : is_partition o.home.part ≡ true
   pub kib : is_kib o.home.kib ≡ true
-  pub epoch : is_counter o.epoch ≡ true
+  pub epoch : (0 < o.epoch) × (o.epoch ≤ 2 ^ 62)
   pub name : is_name o.kind o.name ≡ true
 
 -- a file of so many KiB may have these values in its header
@@ -68,13 +74,29 @@ NumberedFrom n (h ∷ hs) newest = (h.header.number ≡ n) × NumberedFrom (n + 
 abbrev pub IsOfOpening : Opening → HeadedFile → Type 0
 IsOfOpening o h = h.header ≡ header_for o h.header.serial h.header.number (record { first = h.header.first; rid = h.header.rid })
 
+-- the header is one of this journal, of any epoch
+abbrev pub IsOfJournal : Opening → HeadedFile → Type 0
+IsOfJournal o h = h.header ≡ record (header_for o h.header.serial h.header.number (record { first = h.header.first; rid = h.header.rid })) { epoch = h.header.epoch }
+
+-- the newest of these files has the epoch before this one
+abbrev pub EndBefore : ℕ → List HeadedFile → Type 0
+EndBefore epoch [] = Unit {0}
+EndBefore epoch (h ∷ []) = h.header.epoch + 1 ≡ epoch
+EndBefore epoch (h ∷ g ∷ hs) = EndBefore epoch (g ∷ hs)
+
 -- the ids of files
 abbrev pub ids : List HeadedFile → List ℕ
 ids hs = map (λ h. h.id) hs
 
+-- Files of earlier openings come first, and then those of this one, whose epoch is next. Nothing is written behind the former
 pub record IsSound (l : LogState) : Type 0 where
   pub opening : IsLegalOpening l.opening
-  pub own : AllByRecursion (IsOfOpening l.opening) l.files
+  pub all : AllByRecursion (IsOfJournal l.opening) l.files
+  pub older : l.older ≤ length l.files
+  pub olds : AllByRecursion (λ h. h.header.epoch < l.opening.epoch) (take l.older l.files)
+  pub own : AllByRecursion (IsOfOpening l.opening) (drop l.older l.files)
+  pub full : l.older ≡ length l.files → l.used ≡ capacity_in l.opening
+  pub next : l.older ≡ length l.files → EndBefore l.opening.epoch l.files
   pub legal : AllByRecursion (λ h. IsTrue (is_legal_header h.header)) l.files
   pub some : 0 < length l.files
   pub few : length l.files ≤ l.newest

@@ -1,5 +1,5 @@
 -- What is read of a log's journal, and what a batch adds to it.
-use Rattle.std.specs.Prelude.{◌≡◌, ℕ, true, List, [], ◌++◌, map}
+use Rattle.std.specs.Prelude.{◌≡◌, ℕ, ◌+◌, ◌*◌, List, [], ◌++◌, map, drop, ◌==◌}
 use Rattle.qls_record.specs.Record.{Record}
 use Rattle.qls_site.specs.Disk.{Disk}
 use Rattle.qls_site.specs.Content.{Content, moments_since}
@@ -11,11 +11,11 @@ use Rattle.qls_log.specs.Logs.{LogState, capacity_in}
 use Rattle.qls_log.specs.Spots.{spot_of}
 use Rattle.qls_log.specs.Standing.{IsUnmarkedBehind, files_on, end_of}
 
--- This is what is read of the journal on the disk, whose files are all of one epoch; the reading ends where the next batch goes, and what
--- lies behind that is unmarked
+-- This is what is read of the journal on the disk. The reading of the files of this opening ends where the next batch goes, and what lies
+-- behind that is unmarked. Without such a file the batch goes behind the older ones
 pub record IsRead (l : LogState) (reads : List Read) (d : Disk) : Type 0 where
   pub reading : journal_reading (journal_on d l.opening.kind l.opening.name) ≡ reads
-  pub ends : epoch_end true (files_on l.opening d) ≡ end_of l
+  pub ends : l.older * capacity_in l.opening + epoch_end (l.older == 0) (drop l.older (files_on l.opening d)) ≡ end_of l
   pub behind : IsUnmarkedBehind l d
 
 -- a record, read at its spot

@@ -13,7 +13,7 @@ use Rattle.qls_pool.specs.Serials.{TakesNone}
 use Rattle.qls_log.specs.declared.opening.Opening.{Opening}
 use Rattle.qls_log.specs.declared.fault.LogError.{LogError}
 use Rattle.qls_log.specs.declared.fault.LogError.TheVariants.{Memory}
-use Rattle.qls_log.specs.Logs.{LogState, IsOfOpening, NumberedFrom, ids}
+use Rattle.qls_log.specs.Logs.{LogState, IsOfJournal, NumberedFrom, ids}
 use Rattle.qls_log.specs.Faults.{fault_of_site}
 use Rattle.qls_log.specs.Standing.{HasFiles}
 use Rattle.qls_log.specs.Steps.{IsLogStep, PassesOwn}
@@ -63,7 +63,7 @@ released n l = if length l.unsynced == 0 then before_number n l.files else []
 pub record MayReturn (o : Opening) (pool : PoolState) (hs : List HeadedFile) (d : Disk) : Type 0 where
   pub spare : IsPoolOf pool [] d
   pub files : HasFiles o hs d
-  pub own : AllByRecursion (IsOfOpening o) hs
+  pub own : AllByRecursion (IsOfJournal o) hs
   pub legal : AllByRecursion (λ h. IsTrue (is_legal_header h.header)) hs
   pub first : ℕ
   pub last : ℕ

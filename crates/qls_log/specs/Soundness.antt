@@ -1,25 +1,28 @@
 -- A log's journal breaks no damage rule, from its first call on, and a disk of such journals has no damage.
-use Rattle.std.specs.Prelude.{◌≡◌, true, List, length, Ok, drop}
+use Rattle.std.specs.Prelude.{◌≡◌, true, List, [], length, Ok}
 use Rattle.std.specs.List.{AllByRecursion}
 use Rattle.qls_site.specs.declared.site.ImageFile.{ImageFile}
 use Rattle.qls_site.specs.Disk.{Disk, full}
 use Rattle.qls_site.specs.Content.{Content, moments_since}
 use Rattle.qls_filehdr.specs.Limits.{is_counter}
 use Rattle.qls_meaning.specs.Journals.{is_of, in_use, empties, headed}
-use Rattle.qls_meaning.specs.Reading.{Read, epoch_reading}
+use Rattle.qls_meaning.specs.Reading.{Read, journal_reading}
 use Rattle.qls_meaning.specs.History.{AllUnmarked}
-use Rattle.qls_meaning.specs.Damage.{is_pool, chain_claims, reading_claims, rid_at_end, oldest_rid}
+use Rattle.qls_meaning.specs.Damage.{is_pool, chain_claims, reading_claims, oldest_rid}
+use Rattle.qls_meaning.specs.Dead.{past_files}
+use Rattle.qls_meaning.specs.Spent.{rid_of_reads}
 use Rattle.qls_meaning.specs.Orderly.{journal_on}
-use Rattle.qls_log.specs.Logs.{LogState, IsSound}
+use Rattle.qls_log.specs.Logs.{LogState, IsSound, without_first}
 use Rattle.qls_log.specs.Standing.{files_on, LogThere}
 use Rattle.qls_log.specs.Reads.{IsRead}
 
--- No rule on files in a row fails in the journal on the disk, and none on its reading; the rid in force where the reading ends is the
--- log's, so that the next batch goes on from it
+-- No rule on files in a row fails in the journal on the disk, and none on its reading, and none of its files lies past that; the rid in
+-- force where the reading ends is the log's, so that the next batch goes on from it
 pub record IsUndamaged (l : LogState) (d : Disk) : Type 0 where
   pub chain : chain_claims (files_on l.opening d) ≡ Ok tt
   pub reading : reading_claims (journal_on d l.opening.kind l.opening.name) ≡ Ok tt
-  pub rid : rid_at_end (oldest_rid (files_on l.opening d)) (epoch_reading true (files_on l.opening d)) ≡ l.rid
+  pub past : past_files (journal_on d l.opening.kind l.opening.name) ≡ []
+  pub rid : rid_of_reads (oldest_rid (files_on l.opening d)) (journal_reading (journal_on d l.opening.kind l.opening.name)) ≡ l.rid
 
 -- where every file that came into use was unmarked, the new log's journal breaks no rule
 abbrev pub BeginsUndamaged : LogState → Content → Content → Type 0
@@ -50,7 +53,7 @@ pub record AllBelongToLogs (d : Disk) : Type 0 where
 -- ---- without the oldest file
 
 abbrev pub log_without_oldest : LogState → LogState
-log_without_oldest l = record l { files = drop 1 l.files }
+log_without_oldest l = without_first 1 l
 
 -- on a disk where the journal is without its oldest file, the log without it breaks no rule and these records are read
 pub record IsKeptWithout (l : LogState) (reads : List Read) (d : Disk) : Type 0 where

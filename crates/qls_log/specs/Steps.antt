@@ -1,5 +1,5 @@
 -- What a log's call does from each moment to the next: only its own journal changes.
-use Rattle.std.specs.Prelude.{◌≡◌, ℕ, ◌+◌, ◌-◌, ◌*◌, Bool, true, false, ◌&&◌, List, [], ◌∷◌, length, take, Option, Some, None, IfSome, Result, Ok, Err}
+use Rattle.std.specs.Prelude.{◌≡◌, ℕ, ◌+◌, ◌-◌, ◌*◌, ◌<◌, nat_lt, Bool, true, false, ◌&&◌, List, [], ◌∷◌, length, take, Option, Some, None, IfSome, Result, Ok, Err}
 use Rattle.std.specs.List.{AllByRecursion}
 use Rattle.qls_model.specs.Bytes.{same}
 use Rattle.qls_site.specs.Disk.{Disk, FileState, file_of, full_file}
@@ -117,9 +117,9 @@ GoesOwn o r old new = GoesBy (IsLogStep o) r old new × TakesNone old new
 abbrev pub room_on : LogState → Disk → ℕ
 room_on l d = let capacity = capacity_in l.opening in capacity * (newest_number (files_on l.opening d) - l.newest) + (capacity - l.used)
 
--- the batch doesn't fit on the disk as it is, and the next file can't be had
+-- the batch doesn't fit on the disk as it is, where the journal has a file of this opening or hasn't, and the next file can't be had
 abbrev pub MeetsEndWith : LogState → ℕ → Disk → Type 0
-MeetsEndWith l needed d = batch_meets_end l.opening.home d (files_on l.opening d) true (room_on l d) needed ≡ true
+MeetsEndWith l needed d = batch_meets_end l.opening.home d (files_on l.opening d) (nat_lt l.older (length (files_on l.opening d))) (room_on l d) needed ≡ true
 
 -- the bytes behind the reading, in the files of the journal's last epoch
 abbrev pub room_in : Bool → List (List Headed) → ℕ
@@ -130,8 +130,9 @@ room_in oldest (e ∷ f ∷ es) = room_in false (f ∷ es)
 abbrev pub room_behind : Journal → ℕ
 room_behind j = room_in true (epochs j.files)
 
--- where every file that came into use was unmarked, the bytes that are left are those behind the journal's reading
+-- where every file that came into use was unmarked, and the journal has a file of this opening, the bytes that are left are those behind
+-- its reading
 abbrev pub KeepsRoom : LogState → Content → Content → Type 0
 KeepsRoom l a b =
-    AllUnmarked a.now (moments_since a b) → (reads : List Read) → IsRead l reads a.now.disk
+    AllUnmarked a.now (moments_since a b) → (reads : List Read) → IsRead l reads a.now.disk → l.older < length (files_on l.opening b.now.disk)
     → room_behind (journal_on b.now.disk l.opening.kind l.opening.name) ≡ room_on l b.now.disk

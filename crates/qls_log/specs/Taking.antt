@@ -38,11 +38,15 @@ abbrev pub DrawsEach : List HeadedFile → Option (List ℕ) → Option (List �
 DrawsEach [] old new = new ≡ old
 DrawsEach (h ∷ hs) old new = (mid : Option (List ℕ)) × DrawsOne h old mid × DrawsEach hs mid new
 
--- fewer than n files were taken, and the next one can't be had: its number would be 2 ^ 62, or its id
+-- behind the file with this number no other can be had: its number would be 2 ^ 62, or its epoch, or its id
+abbrev pub NoneNext : Opening → ℕ → PoolState → Type 0
+NoneNext o number pool = (number ≡ 2 ^ 62 - 1) ⊎ ((o.epoch ≡ 2 ^ 62) ⊎ IsSpent o.home pool)
+
+-- fewer than n files were taken, and the next one can't be had
 pub record MeetsEnd (o : Opening) (newest n : ℕ) (pool : PoolState) : Type 0 where
   pub taken : ℕ
   pub fewer : taken < n
-  pub last : (newest + taken ≡ 2 ^ 62 - 1) ⊎ IsSpent o.home pool
+  pub last : NoneNext o (newest + taken) pool
 
 -- the pool is the site's, and a file with this number is the next one of the journal
 pub record MayTake (o : Opening) (pool : PoolState) (number : ℕ) (d : Disk) : Type 0 where
@@ -50,12 +54,12 @@ pub record MayTake (o : Opening) (pool : PoolState) (number : ℕ) (d : Disk) : 
   pub next : newest_number (files_on o d) + 1 ≡ number
   pub lesser : AllByRecursion (λ f. f.header.number < number) (files_on o d)
 
--- so many files were taken, fewer than n, and the next one can't be had: its number would be 2 ^ 62, or its id
+-- so many files were taken, fewer than n, and the next one can't be had
 pub record StopsAfter (o : Opening) (newest n : ℕ) (pool : PoolState) (d : Disk) : Type 0 where
   pub taken : ℕ
   pub fewer : taken < n
   pub may : MayTake o pool (newest + taken + 1) d
-  pub last : (newest + taken ≡ 2 ^ 62 - 1) ⊎ IsSpent o.home pool
+  pub last : NoneNext o (newest + taken) pool
 
 -- the first of the planned files were taken, and nothing else was done
 pub record TakesFirst (o : Opening) (newest : ℕ) (fresh : List FreshFile) (pool left : PoolState) (old new : Option Content) : Type 0 where

@@ -11,6 +11,7 @@ ghost use Rattle.qls_meaning.specs.Damage.{undamaged};
 ghost use Rattle.qls_meaning.specs.Dead.{oldest_number};
 ghost use Rattle.qls_meaning.specs.Orderly.{journal_on};
 ghost use Rattle.qls_laws.specs.Returns.{IsWholeRun, starts_elsewhere};
+ghost use Rattle.qls_epochs.specs.Whole.{IsWhole};
 ghost use Rattle.qls_log.specs.Logs.{LogState, IsSound, capacity_in};
 ghost use Rattle.qls_log.specs.Standing.{LogThere, files_on};
 ghost use Rattle.qls_log.specs.Reads.{IsRead};
@@ -23,10 +24,14 @@ pub fn undamaged_logs_make_an_undamaged_disk()
     ensures whole { (d : Disk) → AllBelongToLogs d → undamaged (full d) ≡ Ok (journals_of (full d)) }
 {}
 
-/// The journal of a log without damage that is read up to where the next batch goes is one of which the oldest file may go: it is
-/// of one epoch, and none of its files lies past the reading.
+/// The journal of a log without damage is one of which the oldest file may go.
+pub fn undamaged_log_is_whole()
+    ensures whole { (l : LogState) (d : Disk) → IsSound l → LogThere l d → IsUndamaged l d → IsWhole (journal_on d l.opening.kind l.opening.name) }
+{}
+
+/// And it is of one epoch, where the log has no files of earlier openings.
 pub fn undamaged_log_is_a_whole_run()
-    ensures run { (l : LogState) (d : Disk) (reads : List Read) → IsSound l → LogThere l d → IsUndamaged l d → IsRead l reads d
+    ensures run { (l : LogState) (d : Disk) → l.older ≡ 0 → IsSound l → LogThere l d → IsUndamaged l d
         → IsWholeRun (journal_on d l.opening.kind l.opening.name) }
 {}
 
@@ -38,9 +43,10 @@ pub fn oldest_file_of_a_log_may_go()
         → IsSound (log_without_oldest l) × IsKeptWithout l (filter (starts_elsewhere (oldest_number (files_on l.opening d))) reads) e }
 {}
 
-/// Behind the reading of a log's journal, the bytes that are left are those of its newest file behind the last batch.
+/// Behind the reading of a log's journal, the bytes that are left are those of its newest file behind the last batch, where it has a
+/// file of this opening.
 pub fn log_has_its_room()
-    ensures room { (l : LogState) (d : Disk) (reads : List Read) → IsSound l → LogThere l d → IsRead l reads d
+    ensures room { (l : LogState) (d : Disk) (reads : List Read) → IsSound l → LogThere l d → IsRead l reads d → l.older < length l.files
         → room_behind (journal_on d l.opening.kind l.opening.name) ≡ capacity_in l.opening - l.used }
 {}
 

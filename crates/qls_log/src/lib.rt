@@ -11,6 +11,7 @@ mod opening;
 mod release;
 mod spot;
 mod take;
+mod trim;
 mod write;
 
 pub use fault::LogError;

@@ -1,5 +1,5 @@
 // The log of one journal.
-ghost use Rattle.std.specs.Prelude.{◌≡◌, ◌⊎◌, ◌<◌, ◌^◌, [], ℕ, List, false, is_err, IfOk, IfSome, Err, length, map, drop};
+ghost use Rattle.std.specs.Prelude.{◌≡◌, ◌⊎◌, ◌<◌, ◌^◌, [], ℕ, List, false, is_err, IfOk, IfSome, Err, length, map};
 ghost use Rattle.qls_site.specs.Content.{Tells};
 ghost use Rattle.qls_site.specs.Disk.{IsQuiet};
 ghost use Rattle.qls_pool.specs.Pools.{PoolState, IsSpent};
@@ -10,7 +10,7 @@ ghost use Rattle.qls_pool.specs.Moments.{Passes};
 ghost use Rattle.qls_pool.specs.Serials.{DrawsTaken, TakesNone};
 ghost use Rattle.qls_blocks.specs.Batching.{laid_from, length_of, block_length};
 ghost use Rattle.qls_blocks.specs.Plans.{plan_of};
-ghost use Rattle.qls_log.specs.Logs.{IsLegalOpening, IsSound, capacity_in};
+ghost use Rattle.qls_log.specs.Logs.{IsLegalOpening, IsSound, capacity_in, without_first};
 ghost use Rattle.qls_log.specs.Faults.{LogCauses, SiteCauses, Counts};
 ghost use Rattle.qls_log.specs.Taking.{TakesFiles, DrawsEach, MeetsEnd};
 ghost use Rattle.qls_log.specs.Spots.{spot_of};
@@ -21,6 +21,8 @@ ghost use Rattle.qls_log.specs.Standing.{LogThere, StandsWith, IsUnmarkedBehind,
 ghost use Rattle.qls_meaning.specs.Reading.{Read};
 ghost use Rattle.qls_log.specs.Reads.{IsRead, BeginsReading, ReadsOn};
 ghost use Rattle.qls_log.specs.Soundness.{IsUndamaged, BeginsUndamaged, StaysUndamaged};
+ghost use Rattle.qls_log.specs.Reopening.{MayReopen, reopened};
+ghost use Rattle.qls_log.specs.Trimming.{AreInRow, MayTrim, newest_first, without_last, last_number, opened_behind, GivesNewest, ReadsTheSame};
 ghost use Rattle.qls_log.specs.Appending.{IsNew, FollowRids, HasAppended, TakesAndWrites, ReadsNone, StandsBehind, StandsStill, LeavesOthers, IsQuietBut, SyncsAll, SeesTheSame, ReadsInImages};
 
 use crate::fault::LogError;
@@ -28,6 +30,7 @@ use crate::opening::Opening;
 use crate::release::{count_released, give_back_each};
 use crate::spot::{Spot, spots};
 use crate::take::take_files;
+use crate::trim::{give_back_newest, newest_of};
 use crate::write::{files_from, used_behind, write_batch};
 use qls_blocks::{Batch, FreshFile, sync_parts};
 use qls_filehdr::JournalKind;
@@ -42,8 +45,10 @@ use std::mem;
 #[derive(Drop)]
 pub struct Log {
     opening: Opening,
-    /// The files taken in this opening, oldest first.
+    /// The files of the journal, oldest first: those taken in earlier openings, and then those of this one.
     files: Vec<Linked>,
+    /// How many of them were taken in earlier openings.
+    older: usize,
     /// The number of the newest file.
     newest: u64,
     /// How many bytes of the newest file's data area are written.
@@ -61,9 +66,9 @@ impl Model for Log {
 
     ghost Value = { LogState };
 
-    ghost view = { λ l. record { opening = l.opening; files = l.files.items; newest = l.newest; used = l.used; rid = l.rid; unsynced = l.unsynced; ended = l.ended } };
+    ghost view = { λ l. record { opening = l.opening; files = l.files.items; older = l.older; newest = l.newest; used = l.used; rid = l.rid; unsynced = l.unsynced; ended = l.ended } };
 
-    ghost invariant = { λ l. l.ended ≡ false → IsSound (record { opening = l.opening; files = l.files.items; newest = l.newest; used = l.used; rid = l.rid; unsynced = l.unsynced; ended = l.ended }) };
+    ghost invariant = { λ l. l.ended ≡ false → IsSound (record { opening = l.opening; files = l.files.items; older = l.older; newest = l.newest; used = l.used; rid = l.rid; unsynced = l.unsynced; ended = l.ended }) };
 }
 
 impl Log {
@@ -125,12 +130,94 @@ impl Log {
         Ok(Log {
             opening,
             files,
+            older: 0,
             newest: 1,
             used: 0,
             rid: 0,
             unsynced: Seq::new(alloc),
             ended: false,
         })
+    }
+
+    /// A log of a journal all of whose files were taken in earlier openings, at least one, oldest first: their numbers count
+    /// on, up to `newest`, and `rid` is the record id in force behind what is read of them. The next batch takes a file of
+    /// this opening, whose `epoch` is one more than that of the newest file; with epoch 2^62 none can be taken.
+    pub fn reopen(
+        alloc: Global,
+        kind: JournalKind,
+        name: Name,
+        home: PoolId,
+        epoch: u64,
+        files: Vec<Linked>,
+        newest: u64,
+        rid: u64,
+    ) -> Log
+        requires may { MayReopen (record { kind = kind; name = name; home = home; epoch = epoch }) files.items newest rid }
+        ensures exact { result ≡ reopened (record { kind = kind; name = name; home = home; epoch = epoch }) files.items newest rid }
+        ensures sound { IsSound result }
+    {
+        let opening = Opening {
+            kind,
+            name,
+            home,
+            epoch,
+        };
+        Log {
+            opening,
+            older: files.len(),
+            files,
+            newest,
+            used: opening.capacity(),
+            rid,
+            unsynced: Seq::new(alloc),
+            ended: false,
+        }
+    }
+
+    /// A log of a journal all of whose files were taken in earlier openings, without its newest ones, so many, which lie past
+    /// its reading: they go back to their pool, newest first, by one relocation each, and nothing is written. What is read
+    /// of the journal stays. `rid` is the record id in force behind that. The log's epoch is one more than the newest
+    /// epoch of the journal.
+    ///
+    /// The files are in a row, and at least one stays. Where told, they are the journal's files on the site, with nothing
+    /// pending, just so many lie past its reading, the journal breaks no damage rule, and the pool is the site's, with no
+    /// file out. After an error the files before the one whose relocation failed are in their pool.
+    pub fn trim<S: Site>(
+        alloc: Global,
+        site: &mut S,
+        pool: &mut Pool,
+        kind: JournalKind,
+        name: Name,
+        home: PoolId,
+        files: Vec<Linked>,
+        past: usize,
+        rid: u64,
+    ) -> Result<Log, LogError>
+        requires row { AreInRow (opened_behind kind name home (without_last past files.items)) files.items }
+        requires fewer { past < length files.items }
+        requires rid { rid < 2 ^ 62 }
+        requires may { IfSome (S.told site.old) (OnDisk (MayTrim (opened_behind kind name home (without_last past files.items)) pool.old files.items past rid)) }
+        ensures log { IfOk result (λ log. log ≡ reopened (opened_behind kind name home (without_last past files.items)) (without_last past files.items) (last_number (without_last past files.items)) rid) }
+        ensures legal { IfOk result IsSound }
+        ensures told { Tells (GivesNewest (newest_first past files.items) result) (S.told site.old) (S.told site.new) }
+        ensures there { IfOk result (λ log. IfSome (S.told site.new) (OnDisk (LogThere log))) }
+        ensures read { IfOk result (λ log. Tells (ReadsTheSame log) (S.told site.old) (S.told site.new)) }
+        ensures undamaged { IfOk result (λ log. IfSome (S.told site.new) (OnDisk (IsUndamaged log))) }
+        ensures pool { IfOk result (λ _. IfSome (S.told site.new) (OnDisk (IsWholePool pool.new))) }
+        ensures limit { pool.old.greatest < 2 ^ 62 → pool.new.greatest < 2 ^ 62 }
+        ensures others { IfOk result (λ _. Tells (LeavesOthers (newest_first past files.items)) (S.told site.old) (S.told site.new)) }
+        ensures went { Tells (GoesBy (IsLogStep (opened_behind kind name home (without_last past files.items))) result) (S.told site.old) (S.told site.new) }
+        ensures none { Tells TakesNone (S.told site.old) (S.told site.new) }
+        ensures writes { Tells WritesWell (S.told site.old) (S.told site.new) }
+        ensures cause { SiteCauses (S.faults site.old) (S.faults site.new) result }
+        ensures syncs { S.syncs site.new ≡ S.syncs site.old }
+        ensures reads { S.reads site.new ≡ S.reads site.old }
+    {
+        let mut kept = files;
+        give_back_newest(site, pool, &mut kept, past)?;
+        let newest = newest_of(&kept);
+        let (epoch, number) = (newest.header().epoch + 1, newest.header().number);
+        Ok(Log::reopen(alloc, kind, name, home, epoch, kept, number, rid))
     }
 
     /// Appends a batch: all files that it needs are taken first, and then each touched file gets one write, in file
@@ -253,7 +340,7 @@ impl Log {
         requires pool { IfSome (S.told site.old) (OnDisk (IsPoolOf pool.old [])) }
         ensures ended { self.new.ended ≡ is_err result }
         ensures legal { IsSound self.old }
-        ensures log { IfOk result (λ _. self.new ≡ record self.old { files = drop (length (released number self.old)) self.old.files }) }
+        ensures log { IfOk result (λ _. self.new ≡ without_first (length (released number self.old)) self.old) }
         ensures told { Tells (GivesAll (released number self.old) result) (S.told site.old) (S.told site.new) }
         ensures there { IfOk result (λ _. IfSome (S.told site.new) (OnDisk (LogThere self.new))) }
         ensures pool { IfOk result (λ _. IfSome (S.told site.new) (OnDisk (IsPoolOf pool.new []))) }
@@ -274,6 +361,7 @@ impl Log {
         let kept = self.files.split_off(count)?;
         let given = mem::replace(&mut self.files, kept);
         give_back_each(site, pool, given)?;
+        self.older = self.older.saturating_sub(count);
         self.ended = false;
         Ok(())
     }

@@ -23,6 +23,9 @@ use std::alloc::Global;
 /// The last number of a file.
 pub(crate) const LAST_NUMBER: u64 = (1 << 62) - 1;
 
+/// The epoch past the last: no file can be taken in an opening with it.
+pub(crate) const SPENT_EPOCH: u64 = 1 << 62;
+
 /// Takes one file: from the pool, or made; headed; synced; put into use.
 fn take_file<S: Site, N: Serials>(
     site: &mut S,
@@ -33,6 +36,7 @@ fn take_file<S: Site, N: Serials>(
     fresh: FreshFile,
 ) -> Result<Linked, LogError>
     requires opening { IsLegalOpening opening.now }
+    requires epoch { is_counter opening.now.epoch ≡ true }
     requires number { is_counter number ≡ true }
     requires fits { FitsFile opening.now.home.kib fresh }
     requires pool { IfSome (S.told site.old) (OnDisk (IsPoolOf pool.old [])) }
@@ -112,7 +116,7 @@ pub(crate) fn take_files<S: Site, N: Serials>(
     let mut files = Vec::with_capacity(alloc, fresh.len())?;
     let mut number = newest;
     for at in 0..fresh.len() {
-        if number == LAST_NUMBER {
+        if number == LAST_NUMBER || opening.epoch == SPENT_EPOCH {
             return Err(LogError::Spent);
         }
         let file = take_file(

@@ -56,6 +56,7 @@ loop-at-preserved g c =
       none = search rules;
       some = search rules;
       below = search rules;
+      unspent = search rules;
       sites = search rules;
       draws = search rules;
       syncs =
@@ -95,7 +96,7 @@ returns-in_err-file-clause-ends g c = λ e.
     let pool : c.take_file.new.pool ≡ c.loop-at.pool = c.in_err-file.ensures.spent_pool (search rules) in
     subst (λ (p : PoolState). IfSome (g.S.Site.told c.take_file.new.site) (OnDisk (StopsAfter o c.args.newest (length c.args.fresh.now) p))) (sym pool)
     (subst (λ x. IfSome (g.S.Site.told x) (OnDisk (StopsAfter o c.args.newest (length c.args.fresh.now) c.loop-at.pool))) (sym site)
-    (told_stops o c.args.newest c.loop-at.number c.loop-at.at (length c.args.fresh.now) c.loop-at.pool _ c.loop-at.invariant.number c.loop-at-test.true c.loop-at.invariant.next (inr spent)))
+    (told_stops o c.args.newest c.loop-at.number c.loop-at.at (length c.args.fresh.now) c.loop-at.pool _ c.loop-at.invariant.number c.loop-at-test.true c.loop-at.invariant.next (inr (inr spent))))
 
 pub returns-in_err-file-clause-some : goal.returns-in_err-file-clause-some
 returns-in_err-file-clause-some g c = λ e.

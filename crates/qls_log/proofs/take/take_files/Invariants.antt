@@ -30,6 +30,7 @@ invariant-loop-at g l = record {
   limit : l.fn.pool.greatest < 2 ^ 62 → l.pool.greatest < 2 ^ 62;
   some : 0 < l.at → IsSpent l.opening.home l.fn.pool → ⊥;
   below : 0 < l.at → l.newest < 2 ^ 62 - 1;
+  unspent : 0 < l.at → l.opening.epoch < 2 ^ 62;
   sites : g.S.Site.faults l.fn.site ≤ g.S.Site.faults l.site;
   draws : g.N.Serials.faults l.fn.serials ≤ g.N.Serials.faults l.serials;
   syncs : Counts {E = LogError} (g.S.Site.told l.fn.site) (Ok (tt {0})) l.at (g.S.Site.syncs l.fn.site) (g.S.Site.syncs l.site);

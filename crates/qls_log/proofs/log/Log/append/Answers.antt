@@ -13,7 +13,7 @@ use Rattle.qls_log.specs.Appending.{FollowRids, HasAppended, TakesAndWrites, Sta
 use Rattle.qls_log.proofs.Fits.{plan_fits, filled_legal, rid_behind, rid_of_some}
 use Rattle.qls_log.proofs.Sizes.{block_facts}
 use Rattle.qls_log.proofs.Stands.{told_stands}
-use Rattle.qls_log.proofs.Appended.{sound_capacity, among_written_files, told_room, headed_count, tail_length, sound_after, told_appended, told_writes, told_there, told_pool_after, told_others_after, batch_size}
+use Rattle.qls_log.proofs.Appended.{sound_capacity, among_written_files, told_room, headed_count, tail_length, sound_after, some_taken, told_appended, told_writes, told_there, told_pool_after, told_others_after, batch_size}
 use Rattle.qls_log.specs.Reads.{ReadsOn}
 use Rattle.qls_log.proofs.Behind.{told_reads_on}
 use Rattle.qls_model.specs.declared.bytes.Seq.{Seq}
@@ -36,11 +36,12 @@ use Rattle.qls_log.specs.Unwritten.{StaysWritten}
 use Rattle.qls_pool.proofs.Moments.{told_of}
 use Rattle.qls_log.proofs.BackSteps.{told_none_leaves_same, told_well_same, told_failed_written}
 use Rattle.qls_log.proofs.AppendSectors.{last_place, told_append_ok, told_append_err, told_append_stays, told_batch_parts, told_took, told_took_stays, told_took_well}
+use Rattle.qls_log.proofs.SpentEpoch.{told_no_epoch}
 use Rattle.qls_log.proofs.log.Log.append.Goals as goal
 
 pub take_files-requires-clause-fits : goal.take_files-requires-clause-fits
 take_files-requires-clause-fits g c =
-    let sound : IsSound (record { opening = c.self.inside.opening; files = c.self.inside.files.items; newest = c.self.inside.newest; used = c.self.inside.used; rid = c.self.inside.rid; unsynced = c.self.inside.unsynced; ended = c.self.inside.ended }) = c.self.invariant (ap (λ (l : LogState). l.ended) c.self.view_is ∙ c.requires.unended) in
+    let sound : IsSound (record { opening = c.self.inside.opening; files = c.self.inside.files.items; older = c.self.inside.older; newest = c.self.inside.newest; used = c.self.inside.used; rid = c.self.inside.rid; unsynced = c.self.inside.unsynced; ended = c.self.inside.ended }) = c.self.invariant (ap (λ (l : LogState). l.ended) c.self.view_is ∙ c.requires.unended) in
     subst (AllByRecursion (FitsFile c.self.inside.opening.home.kib)) (sym c.as_slice-fresh.ensures.same)
     (plan_fits c.self.inside.opening.home.kib c.capacity-capacity.result c.self.inside.rid c.self.inside.used c.args.batch.now c.in_ok-plan.plan c.in_ok-plan.ensures.exact c.capacity-capacity.ensures.exact
     (subst (λ n. n % 4096 ≡ 0) (sym c.capacity-capacity.ensures.exact) (sound_capacity c.self.inside.opening sound.opening).1) sound.used.0 sound.rid
@@ -48,13 +49,13 @@ take_files-requires-clause-fits g c =
 
 pub write_batch-requires-clause-files : goal.write_batch-requires-clause-files
 write_batch-requires-clause-files g c =
-    let sound : IsSound (record { opening = c.self.inside.opening; files = c.self.inside.files.items; newest = c.self.inside.newest; used = c.self.inside.used; rid = c.self.inside.rid; unsynced = c.self.inside.unsynced; ended = c.self.inside.ended }) = c.self.invariant (ap (λ (l : LogState). l.ended) c.self.view_is ∙ c.requires.unended) in
+    let sound : IsSound (record { opening = c.self.inside.opening; files = c.self.inside.files.items; older = c.self.inside.older; newest = c.self.inside.newest; used = c.self.inside.used; rid = c.self.inside.rid; unsynced = c.self.inside.unsynced; ended = c.self.inside.ended }) = c.self.invariant (ap (λ (l : LogState). l.ended) c.self.view_is ∙ c.requires.unended) in
     let over : c.files_from-over.result.now ≡ drop (length c.self.inside.files.items - 1) (c.self.inside.files.items ++ c.in_ok-taken.taken.items) = search rules in
     ap length over ∙ tail_length c.self.inside.files.items c.in_ok-taken.taken.items (length c.in_ok-plan.plan.fresh) sound.some (headed_count c.self.inside.opening c.self.inside.newest c.as_slice-fresh.result.now c.in_ok-taken.taken.items c.in_ok-taken.ensures.headers ∙ ap length c.as_slice-fresh.ensures.same)
 
 pub write_batch-requires-clause-there : goal.write_batch-requires-clause-there
 write_batch-requires-clause-there g c =
-    let l : LogState = record { opening = c.self.inside.opening; files = c.self.inside.files.items; newest = c.self.inside.newest; used = c.self.inside.used; rid = c.self.inside.rid; unsynced = c.self.inside.unsynced; ended = c.self.inside.ended } in
+    let l : LogState = record { opening = c.self.inside.opening; files = c.self.inside.files.items; older = c.self.inside.older; newest = c.self.inside.newest; used = c.self.inside.used; rid = c.self.inside.rid; unsynced = c.self.inside.unsynced; ended = c.self.inside.ended } in
     let sound : IsSound l = c.self.invariant (ap (λ (x : LogState). x.ended) c.self.view_is ∙ c.requires.unended) in
     let over : c.files_from-over.result.now ≡ drop (length c.self.inside.files.items - 1) (c.self.inside.files.items ++ c.in_ok-taken.taken.items) = search rules in
     subst (λ (hs : List HeadedFile). IfSome (g.S.Site.told c.take_files.new.site) (HaveRoom c.capacity-capacity.result (ids hs))) (sym over)
@@ -67,8 +68,8 @@ used_behind-self-inside-requires-clause-length g c = block_facts c.args.batch.no
 
 pub invariant_of-self-2 : goal.invariant_of-self-2
 invariant_of-self-2 g c = λ e.
-    let l : LogState = record { opening = c.self.inside.opening; files = c.self.inside.files.items; newest = c.self.inside.newest; used = c.self.inside.used; rid = c.self.inside.rid; unsynced = c.self.inside.unsynced; ended = c.self.inside.ended } in
-    let new : LogState = record { opening = c.self.inside.opening; files = c.append.new.self.items; newest = c.self.inside.newest + length c.as_slice-fresh.result.now; used = c.used_behind-self-inside.result; rid = c.last_rid-self-inside.result; unsynced = c.in_ok-written.written; ended = false } in
+    let l : LogState = record { opening = c.self.inside.opening; files = c.self.inside.files.items; older = c.self.inside.older; newest = c.self.inside.newest; used = c.self.inside.used; rid = c.self.inside.rid; unsynced = c.self.inside.unsynced; ended = c.self.inside.ended } in
+    let new : LogState = record { opening = c.self.inside.opening; files = c.append.new.self.items; older = c.self.inside.older; newest = c.self.inside.newest + length c.as_slice-fresh.result.now; used = c.used_behind-self-inside.result; rid = c.last_rid-self-inside.result; unsynced = c.in_ok-written.written; ended = false } in
     let sound : IsSound l = c.self.invariant (ap (λ (x : LogState). x.ended) c.self.view_is ∙ c.requires.unended) in
     let cap : c.capacity-capacity.result ≡ capacity_in l.opening = c.capacity-capacity.ensures.exact in
     let taken : List HeadedFile = c.in_ok-taken.taken.items in
@@ -77,7 +78,11 @@ invariant_of-self-2 g c = λ e.
     let over : c.files_from-over.result.now ≡ from_newest l taken = search rules in
     let written : c.in_ok-written.written ≡ ids (from_written c.capacity-capacity.result l.used c.files_from-over.result.now) = c.in_ok-written.ensures.written in
     let unsynced : new.unsynced ≡ ids (written_files l taken) = written ∙ (λ i. ids (from_written (cap i) l.used (over i))) in
-    sound_after l c.as_slice-fresh.result.now taken new sound c.in_ok-taken.ensures.headers refl files (ap (λ n. l.newest + n) (sym count)) (subst (λ n. l.newest + n < 2 ^ 62) count c.in_ok-taken.ensures.newest)
+    let size : length (batch_bytes l taken c.args.batch.now) ≡ c.in_ok-plan.plan.length = batch_size l taken c.args.batch.now c.in_ok-plan.plan.length c.in_ok-plan.ensures.own.bytes in
+    let some : 0 < length (batch_bytes l taken c.args.batch.now) = subst (λ n. 0 < n) (sym size) (block_facts c.args.batch.now c.in_ok-plan.plan.length c.requires.some c.in_ok-plan.ensures.own.bytes).0 in
+    let number : length taken ≡ (l.used + length (batch_bytes l taken c.args.batch.now) - 1) / capacity_in l.opening =
+    count ∙ ap length c.as_slice-fresh.ensures.same ∙ c.in_ok-plan.ensures.own.files ∙ (λ i. (l.used + sym size i - 1) / cap i) in
+    sound_after l c.as_slice-fresh.result.now taken new sound c.in_ok-taken.ensures.headers refl files refl (some_taken (capacity_in l.opening) l.used (length (batch_bytes l taken c.args.batch.now)) (length taken) (sound_capacity l.opening sound.opening).0 some number) (ap (λ n. l.newest + n) (sym count)) (subst (λ n. l.newest + n < 2 ^ 62) count c.in_ok-taken.ensures.newest)
     (c.used_behind-self-inside.ensures.blocks, subst (λ n. c.used_behind-self-inside.result ≤ n) cap c.used_behind-self-inside.ensures.within)
     (subst (λ n. n < 2 ^ 62) (sym c.last_rid-self-inside.ensures.exact) (rid_behind l.rid c.args.batch.now (subst (λ (x : LogState). FollowRids x.rid c.args.batch.now) (sym c.self.view_is) c.requires.rids)))
     c.in_ok-taken.ensures.legal
@@ -85,8 +90,8 @@ invariant_of-self-2 g c = λ e.
 
 pub returns-clause-appended : goal.returns-clause-appended
 returns-clause-appended g c =
-    let l : LogState = record { opening = c.self.inside.opening; files = c.self.inside.files.items; newest = c.self.inside.newest; used = c.self.inside.used; rid = c.self.inside.rid; unsynced = c.self.inside.unsynced; ended = c.self.inside.ended } in
-    let new : LogState = record { opening = c.self.inside.opening; files = c.append.new.self.items; newest = c.self.inside.newest + length c.as_slice-fresh.result.now; used = c.used_behind-self-inside.result; rid = c.last_rid-self-inside.result; unsynced = c.in_ok-written.written; ended = false } in
+    let l : LogState = record { opening = c.self.inside.opening; files = c.self.inside.files.items; older = c.self.inside.older; newest = c.self.inside.newest; used = c.self.inside.used; rid = c.self.inside.rid; unsynced = c.self.inside.unsynced; ended = c.self.inside.ended } in
+    let new : LogState = record { opening = c.self.inside.opening; files = c.append.new.self.items; older = c.self.inside.older; newest = c.self.inside.newest + length c.as_slice-fresh.result.now; used = c.used_behind-self-inside.result; rid = c.last_rid-self-inside.result; unsynced = c.in_ok-written.written; ended = false } in
     let sound : IsSound l = c.self.invariant (ap (λ (x : LogState). x.ended) c.self.view_is ∙ c.requires.unended) in
     let cap : c.capacity-capacity.result ≡ capacity_in l.opening = c.capacity-capacity.ensures.exact in
     let taken : List HeadedFile = c.in_ok-taken.taken.items in
@@ -103,6 +108,7 @@ returns-clause-appended g c =
             (c.as_slice-fresh.ensures.same ∙ ap (λ (p : Plan). p.fresh) (c.in_ok-plan.ensures.exact ∙ ap (λ n. plan_of c.args.batch.now l.used n l.rid) cap)) c.in_ok-taken.ensures.headers;
         opening = refl;
         files = files;
+        older = refl;
         newest = ap (λ n. l.newest + n) (sym count);
         used =
             (λ i. c.used_behind-self-inside.result + sym cap i * count i) ∙ c.used_behind-self-inside.ensures.exact ∙ ap (λ n. l.used + n) c.in_ok-plan.ensures.own.bytes;
@@ -117,8 +123,8 @@ returns-clause-appended g c =
 
 pub returns-clause-there : goal.returns-clause-there
 returns-clause-there g c =
-    let l : LogState = record { opening = c.self.inside.opening; files = c.self.inside.files.items; newest = c.self.inside.newest; used = c.self.inside.used; rid = c.self.inside.rid; unsynced = c.self.inside.unsynced; ended = c.self.inside.ended } in
-    let new : LogState = record { opening = c.self.inside.opening; files = c.append.new.self.items; newest = c.self.inside.newest + length c.as_slice-fresh.result.now; used = c.used_behind-self-inside.result; rid = c.last_rid-self-inside.result; unsynced = c.in_ok-written.written; ended = false } in
+    let l : LogState = record { opening = c.self.inside.opening; files = c.self.inside.files.items; older = c.self.inside.older; newest = c.self.inside.newest; used = c.self.inside.used; rid = c.self.inside.rid; unsynced = c.self.inside.unsynced; ended = c.self.inside.ended } in
+    let new : LogState = record { opening = c.self.inside.opening; files = c.append.new.self.items; older = c.self.inside.older; newest = c.self.inside.newest + length c.as_slice-fresh.result.now; used = c.used_behind-self-inside.result; rid = c.last_rid-self-inside.result; unsynced = c.in_ok-written.written; ended = false } in
     let sound : IsSound l = c.self.invariant (ap (λ (x : LogState). x.ended) c.self.view_is ∙ c.requires.unended) in
     let cap : c.capacity-capacity.result ≡ capacity_in l.opening = c.capacity-capacity.ensures.exact in
     let taken : List HeadedFile = c.in_ok-taken.taken.items in
@@ -139,8 +145,8 @@ returns-clause-there g c =
 
 pub returns-clause-pool : goal.returns-clause-pool
 returns-clause-pool g c =
-    let l : LogState = record { opening = c.self.inside.opening; files = c.self.inside.files.items; newest = c.self.inside.newest; used = c.self.inside.used; rid = c.self.inside.rid; unsynced = c.self.inside.unsynced; ended = c.self.inside.ended } in
-    let new : LogState = record { opening = c.self.inside.opening; files = c.append.new.self.items; newest = c.self.inside.newest + length c.as_slice-fresh.result.now; used = c.used_behind-self-inside.result; rid = c.last_rid-self-inside.result; unsynced = c.in_ok-written.written; ended = false } in
+    let l : LogState = record { opening = c.self.inside.opening; files = c.self.inside.files.items; older = c.self.inside.older; newest = c.self.inside.newest; used = c.self.inside.used; rid = c.self.inside.rid; unsynced = c.self.inside.unsynced; ended = c.self.inside.ended } in
+    let new : LogState = record { opening = c.self.inside.opening; files = c.append.new.self.items; older = c.self.inside.older; newest = c.self.inside.newest + length c.as_slice-fresh.result.now; used = c.used_behind-self-inside.result; rid = c.last_rid-self-inside.result; unsynced = c.in_ok-written.written; ended = false } in
     let sound : IsSound l = c.self.invariant (ap (λ (x : LogState). x.ended) c.self.view_is ∙ c.requires.unended) in
     let cap : c.capacity-capacity.result ≡ capacity_in l.opening = c.capacity-capacity.ensures.exact in
     let taken : List HeadedFile = c.in_ok-taken.taken.items in
@@ -161,8 +167,8 @@ returns-clause-pool g c =
 
 pub returns-clause-others : goal.returns-clause-others
 returns-clause-others g c =
-    let l : LogState = record { opening = c.self.inside.opening; files = c.self.inside.files.items; newest = c.self.inside.newest; used = c.self.inside.used; rid = c.self.inside.rid; unsynced = c.self.inside.unsynced; ended = c.self.inside.ended } in
-    let new : LogState = record { opening = c.self.inside.opening; files = c.append.new.self.items; newest = c.self.inside.newest + length c.as_slice-fresh.result.now; used = c.used_behind-self-inside.result; rid = c.last_rid-self-inside.result; unsynced = c.in_ok-written.written; ended = false } in
+    let l : LogState = record { opening = c.self.inside.opening; files = c.self.inside.files.items; older = c.self.inside.older; newest = c.self.inside.newest; used = c.self.inside.used; rid = c.self.inside.rid; unsynced = c.self.inside.unsynced; ended = c.self.inside.ended } in
+    let new : LogState = record { opening = c.self.inside.opening; files = c.append.new.self.items; older = c.self.inside.older; newest = c.self.inside.newest + length c.as_slice-fresh.result.now; used = c.used_behind-self-inside.result; rid = c.last_rid-self-inside.result; unsynced = c.in_ok-written.written; ended = false } in
     let sound : IsSound l = c.self.invariant (ap (λ (x : LogState). x.ended) c.self.view_is ∙ c.requires.unended) in
     let cap : c.capacity-capacity.result ≡ capacity_in l.opening = c.capacity-capacity.ensures.exact in
     let taken : List HeadedFile = c.in_ok-taken.taken.items in
@@ -183,8 +189,8 @@ returns-clause-others g c =
 
 pub returns-clause-stands : goal.returns-clause-stands
 returns-clause-stands g c =
-    let l : LogState = record { opening = c.self.inside.opening; files = c.self.inside.files.items; newest = c.self.inside.newest; used = c.self.inside.used; rid = c.self.inside.rid; unsynced = c.self.inside.unsynced; ended = c.self.inside.ended } in
-    let new : LogState = record { opening = c.self.inside.opening; files = c.append.new.self.items; newest = c.self.inside.newest + length c.as_slice-fresh.result.now; used = c.used_behind-self-inside.result; rid = c.last_rid-self-inside.result; unsynced = c.in_ok-written.written; ended = false } in
+    let l : LogState = record { opening = c.self.inside.opening; files = c.self.inside.files.items; older = c.self.inside.older; newest = c.self.inside.newest; used = c.self.inside.used; rid = c.self.inside.rid; unsynced = c.self.inside.unsynced; ended = c.self.inside.ended } in
+    let new : LogState = record { opening = c.self.inside.opening; files = c.append.new.self.items; older = c.self.inside.older; newest = c.self.inside.newest + length c.as_slice-fresh.result.now; used = c.used_behind-self-inside.result; rid = c.last_rid-self-inside.result; unsynced = c.in_ok-written.written; ended = false } in
     let sound : IsSound l = c.self.invariant (ap (λ (x : LogState). x.ended) c.self.view_is ∙ c.requires.unended) in
     let cap : c.capacity-capacity.result ≡ capacity_in l.opening = c.capacity-capacity.ensures.exact in
     let taken : List HeadedFile = c.in_ok-taken.taken.items in
@@ -209,8 +215,8 @@ returns-clause-stands g c =
 
 pub returns-clause-reading : goal.returns-clause-reading
 returns-clause-reading g c =
-    let l : LogState = record { opening = c.self.inside.opening; files = c.self.inside.files.items; newest = c.self.inside.newest; used = c.self.inside.used; rid = c.self.inside.rid; unsynced = c.self.inside.unsynced; ended = c.self.inside.ended } in
-    let new : LogState = record { opening = c.self.inside.opening; files = c.append.new.self.items; newest = c.self.inside.newest + length c.as_slice-fresh.result.now; used = c.used_behind-self-inside.result; rid = c.last_rid-self-inside.result; unsynced = c.in_ok-written.written; ended = false } in
+    let l : LogState = record { opening = c.self.inside.opening; files = c.self.inside.files.items; older = c.self.inside.older; newest = c.self.inside.newest; used = c.self.inside.used; rid = c.self.inside.rid; unsynced = c.self.inside.unsynced; ended = c.self.inside.ended } in
+    let new : LogState = record { opening = c.self.inside.opening; files = c.append.new.self.items; older = c.self.inside.older; newest = c.self.inside.newest + length c.as_slice-fresh.result.now; used = c.used_behind-self-inside.result; rid = c.last_rid-self-inside.result; unsynced = c.in_ok-written.written; ended = false } in
     let sound : IsSound l = c.self.invariant (ap (λ (x : LogState). x.ended) c.self.view_is ∙ c.requires.unended) in
     let cap : c.capacity-capacity.result ≡ capacity_in l.opening = c.capacity-capacity.ensures.exact in
     let taken : List HeadedFile = c.in_ok-taken.taken.items in
@@ -234,11 +240,11 @@ returns-clause-reading g c =
     c.as_slice-fresh.ensures.same ∙ ap (λ (p : Plan). p.fresh) (c.in_ok-plan.ensures.exact ∙ ap (λ n. plan_of c.args.batch.now l.used n l.rid) cap) in
     subst (λ (x : LogState). Tells (ReadsOn c.args.batch.now x new) (g.S.Site.told c.args.site.now) (g.S.Site.told c.write_batch.new.site)) c.self.view_is
     (told_reads_on l sound flushed c.args.pool.now c.take_files.new.pool taken c.as_slice-fresh.result.now c.in_ok-taken.ensures.headers c.in_ok-taken.ensures.legal c.args.batch.now
-    (filled_legal l.rid c.args.batch.now rids c.in_ok-spots.ensures.legal) some number new refl files used (ap (λ n. l.newest + n) (sym count)) again planned _ _ _ c.in_ok-taken.ensures.told writes there c.requires.pool)
+    (filled_legal l.rid c.args.batch.now rids c.in_ok-spots.ensures.legal) some number new refl files refl used (ap (λ n. l.newest + n) (sym count)) again planned _ _ _ c.in_ok-taken.ensures.told writes there c.requires.pool)
 
 pub take_files-requires-clause-start : goal.take_files-requires-clause-start
 take_files-requires-clause-start g c =
-    let l : LogState = record { opening = c.self.inside.opening; files = c.self.inside.files.items; newest = c.self.inside.newest; used = c.self.inside.used; rid = c.self.inside.rid; unsynced = c.self.inside.unsynced; ended = c.self.inside.ended } in
+    let l : LogState = record { opening = c.self.inside.opening; files = c.self.inside.files.items; older = c.self.inside.older; newest = c.self.inside.newest; used = c.self.inside.used; rid = c.self.inside.rid; unsynced = c.self.inside.unsynced; ended = c.self.inside.ended } in
     let sound : IsSound l = c.self.invariant (ap (λ (x : LogState). x.ended) c.self.view_is ∙ c.requires.unended) in
     told_may l c.args.pool.now _ sound (subst (λ (x : LogState). IfSome (g.S.Site.told c.args.site.now) (OnDisk (LogThere x))) (sym c.self.view_is) c.requires.there) c.requires.pool
 
@@ -248,18 +254,20 @@ returns-in_err-plan-clause-drew g c =
 
 pub returns-in_err-taken-clause-ends : goal.returns-in_err-taken-clause-ends
 returns-in_err-taken-clause-ends g c = λ e.
-    let l : LogState = record { opening = c.self.inside.opening; files = c.self.inside.files.items; newest = c.self.inside.newest; used = c.self.inside.used; rid = c.self.inside.rid; unsynced = c.self.inside.unsynced; ended = c.self.inside.ended } in
+    let l : LogState = record { opening = c.self.inside.opening; files = c.self.inside.files.items; older = c.self.inside.older; newest = c.self.inside.newest; used = c.self.inside.used; rid = c.self.inside.rid; unsynced = c.self.inside.unsynced; ended = c.self.inside.ended } in
     let sound : IsSound l = c.self.invariant (ap (λ (x : LogState). x.ended) c.self.view_is ∙ c.requires.unended) in
     let cap : c.capacity-capacity.result ≡ capacity_in l.opening = c.capacity-capacity.ensures.exact in
     let needed : c.in_ok-plan.plan.length ≡ block_length (length_of c.args.batch.now) = c.in_ok-plan.ensures.own.bytes in
     let count : length c.as_slice-fresh.result.now ≡ (l.used + block_length (length_of c.args.batch.now) - 1) / capacity_in l.opening =
     ap length c.as_slice-fresh.ensures.same ∙ c.in_ok-plan.ensures.own.files ∙ (λ i. (l.used + needed i - 1) / cap i) in
     subst (λ (x : LogState). IfSome (g.S.Site.told c.take_files.new.site) (OnDisk (MeetsEndWith x (block_length (length_of c.args.batch.now))))) c.self.view_is
-    (told_meets l c.take_files.new.pool (length c.as_slice-fresh.result.now) (block_length (length_of c.args.batch.now)) _ (sound_capacity l.opening sound.opening).0 sound.used.1 count (c.in_err-taken.ensures.ends (search rules)))
+    (told_meets l c.take_files.new.pool (length c.as_slice-fresh.result.now) (block_length (length_of c.args.batch.now)) _ (sound_capacity l.opening sound.opening).0 sound.used.1 count (c.in_err-taken.ensures.ends (search rules))
+    (told_no_epoch l sound c.as_slice-fresh.result.now c.args.pool.now c.take_files.new.pool _ _ (c.in_err-taken.ensures.some (search rules))
+    (subst (λ (x : LogState). IfSome (g.S.Site.told c.args.site.now) (OnDisk (LogThere x))) (sym c.self.view_is) c.requires.there)))
 
 pub returns-in_err-taken-clause-room : goal.returns-in_err-taken-clause-room
 returns-in_err-taken-clause-room g c = λ e.
-    let l : LogState = record { opening = c.self.inside.opening; files = c.self.inside.files.items; newest = c.self.inside.newest; used = c.self.inside.used; rid = c.self.inside.rid; unsynced = c.self.inside.unsynced; ended = c.self.inside.ended } in
+    let l : LogState = record { opening = c.self.inside.opening; files = c.self.inside.files.items; older = c.self.inside.older; newest = c.self.inside.newest; used = c.self.inside.used; rid = c.self.inside.rid; unsynced = c.self.inside.unsynced; ended = c.self.inside.ended } in
     let sound : IsSound l = c.self.invariant (ap (λ (x : LogState). x.ended) c.self.view_is ∙ c.requires.unended) in
     let cap : c.capacity-capacity.result ≡ capacity_in l.opening = c.capacity-capacity.ensures.exact in
     let flushed : l.unsynced ≡ [] = ap (λ (x : LogState). x.unsynced) c.self.view_is ∙ c.requires.flushed in
@@ -275,7 +283,7 @@ returns-in_err-append-clause-drew g c =
 
 pub returns-in_err-written-clause-went : goal.returns-in_err-written-clause-went
 returns-in_err-written-clause-went g c =
-    let l : LogState = record { opening = c.self.inside.opening; files = c.self.inside.files.items; newest = c.self.inside.newest; used = c.self.inside.used; rid = c.self.inside.rid; unsynced = c.self.inside.unsynced; ended = c.self.inside.ended } in
+    let l : LogState = record { opening = c.self.inside.opening; files = c.self.inside.files.items; older = c.self.inside.older; newest = c.self.inside.newest; used = c.self.inside.used; rid = c.self.inside.rid; unsynced = c.self.inside.unsynced; ended = c.self.inside.ended } in
     let sound : IsSound l = c.self.invariant (ap (λ (x : LogState). x.ended) c.self.view_is ∙ c.requires.unended) in
     let cap : c.capacity-capacity.result ≡ capacity_in l.opening = c.capacity-capacity.ensures.exact in
     let taken : List HeadedFile = c.in_ok-taken.taken.items in
@@ -293,7 +301,7 @@ returns-in_err-written-clause-went g c =
 
 pub returns-in_err-written-clause-drew : goal.returns-in_err-written-clause-drew
 returns-in_err-written-clause-drew g c =
-    let l : LogState = record { opening = c.self.inside.opening; files = c.self.inside.files.items; newest = c.self.inside.newest; used = c.self.inside.used; rid = c.self.inside.rid; unsynced = c.self.inside.unsynced; ended = c.self.inside.ended } in
+    let l : LogState = record { opening = c.self.inside.opening; files = c.self.inside.files.items; older = c.self.inside.older; newest = c.self.inside.newest; used = c.self.inside.used; rid = c.self.inside.rid; unsynced = c.self.inside.unsynced; ended = c.self.inside.ended } in
     let sound : IsSound l = c.self.invariant (ap (λ (x : LogState). x.ended) c.self.view_is ∙ c.requires.unended) in
     let cap : c.capacity-capacity.result ≡ capacity_in l.opening = c.capacity-capacity.ensures.exact in
     let taken : List HeadedFile = c.in_ok-taken.taken.items in
@@ -312,7 +320,7 @@ returns-in_err-written-clause-drew g c =
 
 pub returns-clause-went : goal.returns-clause-went
 returns-clause-went g c =
-    let l : LogState = record { opening = c.self.inside.opening; files = c.self.inside.files.items; newest = c.self.inside.newest; used = c.self.inside.used; rid = c.self.inside.rid; unsynced = c.self.inside.unsynced; ended = c.self.inside.ended } in
+    let l : LogState = record { opening = c.self.inside.opening; files = c.self.inside.files.items; older = c.self.inside.older; newest = c.self.inside.newest; used = c.self.inside.used; rid = c.self.inside.rid; unsynced = c.self.inside.unsynced; ended = c.self.inside.ended } in
     let sound : IsSound l = c.self.invariant (ap (λ (x : LogState). x.ended) c.self.view_is ∙ c.requires.unended) in
     let cap : c.capacity-capacity.result ≡ capacity_in l.opening = c.capacity-capacity.ensures.exact in
     let taken : List HeadedFile = c.in_ok-taken.taken.items in
@@ -329,7 +337,7 @@ returns-clause-went g c =
 
 pub returns-clause-drew : goal.returns-clause-drew
 returns-clause-drew g c =
-    let l : LogState = record { opening = c.self.inside.opening; files = c.self.inside.files.items; newest = c.self.inside.newest; used = c.self.inside.used; rid = c.self.inside.rid; unsynced = c.self.inside.unsynced; ended = c.self.inside.ended } in
+    let l : LogState = record { opening = c.self.inside.opening; files = c.self.inside.files.items; older = c.self.inside.older; newest = c.self.inside.newest; used = c.self.inside.used; rid = c.self.inside.rid; unsynced = c.self.inside.unsynced; ended = c.self.inside.ended } in
     let sound : IsSound l = c.self.invariant (ap (λ (x : LogState). x.ended) c.self.view_is ∙ c.requires.unended) in
     let cap : c.capacity-capacity.result ≡ capacity_in l.opening = c.capacity-capacity.ensures.exact in
     let taken : List HeadedFile = c.in_ok-taken.taken.items in
@@ -346,7 +354,7 @@ returns-clause-drew g c =
 
 pub returns-clause-pending : goal.returns-clause-pending
 returns-clause-pending g c =
-    let l : LogState = record { opening = c.self.inside.opening; files = c.self.inside.files.items; newest = c.self.inside.newest; used = c.self.inside.used; rid = c.self.inside.rid; unsynced = c.self.inside.unsynced; ended = c.self.inside.ended } in
+    let l : LogState = record { opening = c.self.inside.opening; files = c.self.inside.files.items; older = c.self.inside.older; newest = c.self.inside.newest; used = c.self.inside.used; rid = c.self.inside.rid; unsynced = c.self.inside.unsynced; ended = c.self.inside.ended } in
     let sound : IsSound l = c.self.invariant (ap (λ (x : LogState). x.ended) c.self.view_is ∙ c.requires.unended) in
     told_pending l.opening.home c.args.pool.now c.take_files.new.pool c.in_ok-taken.taken.items c.capacity-capacity.result c.in_ok-written.written (if l.used == c.capacity-capacity.result then 0 else l.used)
     (spelled_over c.capacity-capacity.result (serials c.files_from-over.result.now) l.used (with_fillers c.args.batch.now)) _ _ _ c.in_ok-taken.ensures.told c.in_ok-written.ensures.told
@@ -360,8 +368,8 @@ returns-clause-legal g c = invariant_of-self-2 g c refl
 
 pub returns-clause-sound : goal.returns-clause-sound
 returns-clause-sound g c =
-    let l : LogState = record { opening = c.self.inside.opening; files = c.self.inside.files.items; newest = c.self.inside.newest; used = c.self.inside.used; rid = c.self.inside.rid; unsynced = c.self.inside.unsynced; ended = c.self.inside.ended } in
-    let new : LogState = record { opening = c.self.inside.opening; files = c.append.new.self.items; newest = c.self.inside.newest + length c.as_slice-fresh.result.now; used = c.used_behind-self-inside.result; rid = c.last_rid-self-inside.result; unsynced = c.in_ok-written.written; ended = false } in
+    let l : LogState = record { opening = c.self.inside.opening; files = c.self.inside.files.items; older = c.self.inside.older; newest = c.self.inside.newest; used = c.self.inside.used; rid = c.self.inside.rid; unsynced = c.self.inside.unsynced; ended = c.self.inside.ended } in
+    let new : LogState = record { opening = c.self.inside.opening; files = c.append.new.self.items; older = c.self.inside.older; newest = c.self.inside.newest + length c.as_slice-fresh.result.now; used = c.used_behind-self-inside.result; rid = c.last_rid-self-inside.result; unsynced = c.in_ok-written.written; ended = false } in
     let sound : IsSound l = c.self.invariant (ap (λ (x : LogState). x.ended) c.self.view_is ∙ c.requires.unended) in
     let cap : c.capacity-capacity.result ≡ capacity_in l.opening = c.capacity-capacity.ensures.exact in
     let taken : List HeadedFile = c.in_ok-taken.taken.items in
@@ -385,7 +393,7 @@ returns-clause-sound g c =
     c.as_slice-fresh.ensures.same ∙ ap (λ (p : Plan). p.fresh) (c.in_ok-plan.ensures.exact ∙ ap (λ n. plan_of c.args.batch.now l.used n l.rid) cap) in
     subst (λ (x : LogState). Tells (StaysUndamaged x new) (g.S.Site.told c.args.site.now) (g.S.Site.told c.write_batch.new.site)) c.self.view_is
     (told_stays l sound flushed c.args.pool.now c.take_files.new.pool taken c.as_slice-fresh.result.now c.in_ok-taken.ensures.headers c.in_ok-taken.ensures.legal c.args.batch.now
-    (filled_legal l.rid c.args.batch.now rids c.in_ok-spots.ensures.legal) some number new refl files used (ap (λ n. l.newest + n) (sym count)) again planned c.requires.some rids
+    (filled_legal l.rid c.args.batch.now rids c.in_ok-spots.ensures.legal) some number new refl files refl used (ap (λ n. l.newest + n) (sym count)) again planned c.requires.some rids
     (c.last_rid-self-inside.ensures.exact ∙ rid_of_some 0 l.rid c.args.batch.now c.requires.some) _ _ _ c.in_ok-taken.ensures.told writes there c.requires.pool)
 
 pub returns-in_err-plan-clause-stays : goal.returns-in_err-plan-clause-stays
@@ -393,7 +401,7 @@ returns-in_err-plan-clause-stays g c = told_none_leaves_same _
 
 pub returns-in_err-plan-clause-writes : goal.returns-in_err-plan-clause-writes
 returns-in_err-plan-clause-writes g c =
-    let new : LogState = record { opening = c.self.inside.opening; files = c.self.inside.files.items; newest = c.self.inside.newest; used = c.self.inside.used; rid = c.self.inside.rid; unsynced = c.self.inside.unsynced; ended = true } in
+    let new : LogState = record { opening = c.self.inside.opening; files = c.self.inside.files.items; older = c.self.inside.older; newest = c.self.inside.newest; used = c.self.inside.used; rid = c.self.inside.rid; unsynced = c.self.inside.unsynced; ended = true } in
     told_failed_written c.from_residual.result c.args.self.now new _ _ (search (rules, c.from_residual.ensures)) (told_well_same _)
 
 pub returns-in_err-spots-clause-stays : goal.returns-in_err-spots-clause-stays
@@ -401,7 +409,7 @@ returns-in_err-spots-clause-stays g c = told_none_leaves_same _
 
 pub returns-in_err-spots-clause-writes : goal.returns-in_err-spots-clause-writes
 returns-in_err-spots-clause-writes g c =
-    let new : LogState = record { opening = c.self.inside.opening; files = c.self.inside.files.items; newest = c.self.inside.newest; used = c.self.inside.used; rid = c.self.inside.rid; unsynced = c.self.inside.unsynced; ended = true } in
+    let new : LogState = record { opening = c.self.inside.opening; files = c.self.inside.files.items; older = c.self.inside.older; newest = c.self.inside.newest; used = c.self.inside.used; rid = c.self.inside.rid; unsynced = c.self.inside.unsynced; ended = true } in
     told_failed_written c.from_residual-in_err-spots.result c.args.self.now new _ _ (search (rules, c.from_residual-in_err-spots.ensures)) (told_well_same _)
 
 pub returns-in_err-taken-clause-stays : goal.returns-in_err-taken-clause-stays
@@ -409,7 +417,7 @@ returns-in_err-taken-clause-stays g c = told_took_stays c.self.inside.opening _ 
 
 pub returns-in_err-taken-clause-writes : goal.returns-in_err-taken-clause-writes
 returns-in_err-taken-clause-writes g c =
-    let new : LogState = record { opening = c.self.inside.opening; files = c.self.inside.files.items; newest = c.self.inside.newest; used = c.self.inside.used; rid = c.self.inside.rid; unsynced = c.self.inside.unsynced; ended = true } in
+    let new : LogState = record { opening = c.self.inside.opening; files = c.self.inside.files.items; older = c.self.inside.older; newest = c.self.inside.newest; used = c.self.inside.used; rid = c.self.inside.rid; unsynced = c.self.inside.unsynced; ended = true } in
     told_failed_written c.from_residual-in_err-taken.result c.args.self.now new _ _ (search (rules, c.from_residual-in_err-taken.ensures))
     (told_took_well c.self.inside.opening _ _ (told_took _ c.self.inside.opening c.take_files.result _ _ c.take_files.ensures.kept))
 
@@ -418,7 +426,7 @@ returns-in_err-append-clause-stays g c = told_took_stays c.self.inside.opening _
 
 pub returns-in_err-append-clause-writes : goal.returns-in_err-append-clause-writes
 returns-in_err-append-clause-writes g c =
-    let new : LogState = record { opening = c.self.inside.opening; files = c.append.new.self.items; newest = c.self.inside.newest; used = c.self.inside.used; rid = c.self.inside.rid; unsynced = c.self.inside.unsynced; ended = true } in
+    let new : LogState = record { opening = c.self.inside.opening; files = c.append.new.self.items; older = c.self.inside.older; newest = c.self.inside.newest; used = c.self.inside.used; rid = c.self.inside.rid; unsynced = c.self.inside.unsynced; ended = true } in
     told_failed_written c.from_residual-in_err-append.result c.args.self.now new _ _ (search (rules, c.from_residual-in_err-append.ensures))
     (told_took_well c.self.inside.opening _ _ (told_of (IsTakeStep c.self.inside.opening) _ _ c.in_ok-taken.ensures.kept))
 
@@ -436,7 +444,7 @@ returns-clause-stays g c =
 
 pub returns-in_err-written-clause-writes : goal.returns-in_err-written-clause-writes
 returns-in_err-written-clause-writes g c =
-    let l : LogState = record { opening = c.self.inside.opening; files = c.self.inside.files.items; newest = c.self.inside.newest; used = c.self.inside.used; rid = c.self.inside.rid; unsynced = c.self.inside.unsynced; ended = c.self.inside.ended } in
+    let l : LogState = record { opening = c.self.inside.opening; files = c.self.inside.files.items; older = c.self.inside.older; newest = c.self.inside.newest; used = c.self.inside.used; rid = c.self.inside.rid; unsynced = c.self.inside.unsynced; ended = c.self.inside.ended } in
     let sound : IsSound l = c.self.invariant (ap (λ (x : LogState). x.ended) c.self.view_is ∙ c.requires.unended) in
     let cap : c.capacity-capacity.result ≡ capacity_in l.opening = c.capacity-capacity.ensures.exact in
     let taken : List HeadedFile = c.in_ok-taken.taken.items in
@@ -446,7 +454,7 @@ returns-in_err-written-clause-writes g c =
     let some : 0 < length (batch_bytes l taken c.args.batch.now) = subst (λ n. 0 < n) (sym size) (block_facts c.args.batch.now c.in_ok-plan.plan.length c.requires.some c.in_ok-plan.ensures.own.bytes).0 in
     let flushed : l.unsynced ≡ [] = ap (λ (x : LogState). x.unsynced) c.self.view_is ∙ c.requires.flushed in
     let there : IfSome (g.S.Site.told c.args.site.now) (OnDisk (LogThere l)) = subst (λ (x : LogState). IfSome (g.S.Site.told c.args.site.now) (OnDisk (LogThere x))) (sym c.self.view_is) c.requires.there in
-    let new : LogState = record { opening = c.self.inside.opening; files = c.append.new.self.items; newest = c.self.inside.newest; used = c.self.inside.used; rid = c.self.inside.rid; unsynced = c.self.inside.unsynced; ended = true } in
+    let new : LogState = record { opening = c.self.inside.opening; files = c.append.new.self.items; older = c.self.inside.older; newest = c.self.inside.newest; used = c.self.inside.used; rid = c.self.inside.rid; unsynced = c.self.inside.unsynced; ended = true } in
     let number : length taken ≡ (l.used + length (batch_bytes l taken c.args.batch.now) - 1) / capacity_in l.opening =
     count ∙ ap length c.as_slice-fresh.ensures.same ∙ c.in_ok-plan.ensures.own.files ∙ (λ i. (l.used + sym size i - 1) / cap i) in
     let ends = last_place (capacity_in l.opening) l.used (length (batch_bytes l taken c.args.batch.now)) (length taken) (sound_capacity l.opening sound.opening).0 some number in
@@ -458,7 +466,7 @@ returns-in_err-written-clause-writes g c =
 
 pub returns-clause-writes : goal.returns-clause-writes
 returns-clause-writes g c =
-    let l : LogState = record { opening = c.self.inside.opening; files = c.self.inside.files.items; newest = c.self.inside.newest; used = c.self.inside.used; rid = c.self.inside.rid; unsynced = c.self.inside.unsynced; ended = c.self.inside.ended } in
+    let l : LogState = record { opening = c.self.inside.opening; files = c.self.inside.files.items; older = c.self.inside.older; newest = c.self.inside.newest; used = c.self.inside.used; rid = c.self.inside.rid; unsynced = c.self.inside.unsynced; ended = c.self.inside.ended } in
     let sound : IsSound l = c.self.invariant (ap (λ (x : LogState). x.ended) c.self.view_is ∙ c.requires.unended) in
     let cap : c.capacity-capacity.result ≡ capacity_in l.opening = c.capacity-capacity.ensures.exact in
     let taken : List HeadedFile = c.in_ok-taken.taken.items in
@@ -468,7 +476,7 @@ returns-clause-writes g c =
     let some : 0 < length (batch_bytes l taken c.args.batch.now) = subst (λ n. 0 < n) (sym size) (block_facts c.args.batch.now c.in_ok-plan.plan.length c.requires.some c.in_ok-plan.ensures.own.bytes).0 in
     let flushed : l.unsynced ≡ [] = ap (λ (x : LogState). x.unsynced) c.self.view_is ∙ c.requires.flushed in
     let there : IfSome (g.S.Site.told c.args.site.now) (OnDisk (LogThere l)) = subst (λ (x : LogState). IfSome (g.S.Site.told c.args.site.now) (OnDisk (LogThere x))) (sym c.self.view_is) c.requires.there in
-    let new : LogState = record { opening = c.self.inside.opening; files = c.append.new.self.items; newest = c.self.inside.newest + length c.as_slice-fresh.result.now; used = c.used_behind-self-inside.result; rid = c.last_rid-self-inside.result; unsynced = c.in_ok-written.written; ended = false } in
+    let new : LogState = record { opening = c.self.inside.opening; files = c.append.new.self.items; older = c.self.inside.older; newest = c.self.inside.newest + length c.as_slice-fresh.result.now; used = c.used_behind-self-inside.result; rid = c.last_rid-self-inside.result; unsynced = c.in_ok-written.written; ended = false } in
     let files : new.files ≡ l.files ++ taken = c.in_ok-append.ensures.items in
     let used : new.used + capacity_in l.opening * length taken ≡ l.used + length (batch_bytes l taken c.args.batch.now) =
     (λ i. c.used_behind-self-inside.result + sym cap i * count i) ∙ c.used_behind-self-inside.ensures.exact ∙ ap (λ n. l.used + n) (sym size) in

@@ -1,4 +1,4 @@
-use Rattle.std.proofs.Common.{◌≡◌, [], ◌∷◌, List, Ok, Err, IfSome, IsTrue, sym, ap, subst, rules}
+use Rattle.std.proofs.Common.{◌≡◌, [], ◌∷◌, List, Ok, Err, IfSome, IsTrue, refl, sym, ap, subst, rules}
 use Rattle.std.specs.List.{AllByRecursion}
 use Rattle.qls_site.specs.Content.{Tells}
 use Rattle.qls_filehdr.specs.Limits.{is_legal_header}
@@ -21,7 +21,7 @@ use Rattle.qls_log.proofs.AppendSectors.{told_took, told_took_stays, told_took_w
 use Rattle.qls_log.proofs.log.Log.create.Goals as goal
 
 pub returns-in_err-files-clause-spent : goal.returns-in_err-files-clause-spent
-returns-in_err-files-clause-spent g c = λ e. spent_at_once (record { kind = c.args.kind; name = c.args.name; home = c.args.home; epoch = 1 }) c.take_files.new.pool (c.in_err-files.ensures.spent (search rules))
+returns-in_err-files-clause-spent g c = λ e. spent_at_once (record { kind = c.args.kind; name = c.args.name; home = c.args.home; epoch = 1 }) c.take_files.new.pool refl (c.in_err-files.ensures.spent (search rules))
 
 pub returns-clause-new : goal.returns-clause-new
 returns-clause-new g c = search rules

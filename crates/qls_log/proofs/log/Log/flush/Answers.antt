@@ -79,7 +79,7 @@ returns-clause-stands g c =
 
 pub returns-in_err-sync_parts-clause-went : goal.returns-in_err-sync_parts-clause-went
 returns-in_err-sync_parts-clause-went g c =
-    let l : LogState = record { opening = c.self.inside.opening; files = c.self.inside.files.items; newest = c.self.inside.newest; used = c.self.inside.used; rid = c.self.inside.rid; unsynced = c.self.inside.unsynced; ended = c.self.inside.ended } in
+    let l : LogState = record { opening = c.self.inside.opening; files = c.self.inside.files.items; older = c.self.inside.older; newest = c.self.inside.newest; used = c.self.inside.used; rid = c.self.inside.rid; unsynced = c.self.inside.unsynced; ended = c.self.inside.ended } in
     let sound : IsSound l = c.self.invariant (ap (λ (x : LogState). x.ended) c.self.view_is ∙ c.requires.unended) in
     let own = told_log_own l _ sound (subst (λ (x : LogState). IfSome (g.S.Site.told c.args.site.now) (OnDisk (LogThere x))) (sym c.self.view_is) c.requires.there) in
     let is : Err (fault_of_site c.in_err-sync_parts.field-0.0) ≡ c.from_residual.result = search (rules, c.from_residual.ensures) in
@@ -88,7 +88,7 @@ returns-in_err-sync_parts-clause-went g c =
 
 pub returns-in_err-sync_parts-clause-none : goal.returns-in_err-sync_parts-clause-none
 returns-in_err-sync_parts-clause-none g c =
-    let l : LogState = record { opening = c.self.inside.opening; files = c.self.inside.files.items; newest = c.self.inside.newest; used = c.self.inside.used; rid = c.self.inside.rid; unsynced = c.self.inside.unsynced; ended = c.self.inside.ended } in
+    let l : LogState = record { opening = c.self.inside.opening; files = c.self.inside.files.items; older = c.self.inside.older; newest = c.self.inside.newest; used = c.self.inside.used; rid = c.self.inside.rid; unsynced = c.self.inside.unsynced; ended = c.self.inside.ended } in
     let sound : IsSound l = c.self.invariant (ap (λ (x : LogState). x.ended) c.self.view_is ∙ c.requires.unended) in
     let own = told_log_own l _ sound (subst (λ (x : LogState). IfSome (g.S.Site.told c.args.site.now) (OnDisk (LogThere x))) (sym c.self.view_is) c.requires.there) in
     let is : Err (fault_of_site c.in_err-sync_parts.field-0.0) ≡ c.from_residual.result = search (rules, c.from_residual.ensures) in
@@ -97,7 +97,7 @@ returns-in_err-sync_parts-clause-none g c =
 
 pub returns-clause-went : goal.returns-clause-went
 returns-clause-went g c =
-    let l : LogState = record { opening = c.self.inside.opening; files = c.self.inside.files.items; newest = c.self.inside.newest; used = c.self.inside.used; rid = c.self.inside.rid; unsynced = c.self.inside.unsynced; ended = c.self.inside.ended } in
+    let l : LogState = record { opening = c.self.inside.opening; files = c.self.inside.files.items; older = c.self.inside.older; newest = c.self.inside.newest; used = c.self.inside.used; rid = c.self.inside.rid; unsynced = c.self.inside.unsynced; ended = c.self.inside.ended } in
     let sound : IsSound l = c.self.invariant (ap (λ (x : LogState). x.ended) c.self.view_is ∙ c.requires.unended) in
     let own = told_log_own l _ sound (subst (λ (x : LogState). IfSome (g.S.Site.told c.args.site.now) (OnDisk (LogThere x))) (sym c.self.view_is) c.requires.there) in
     let went = ended_own (Unit {0}) l.opening l.unsynced c.in_ok-sync_parts.field-0 (tt {0}) _ _ (told_syncs l.opening l.unsynced (Ok c.in_ok-sync_parts.field-0) _ _ own c.in_ok-sync_parts.ensures.told) in
@@ -105,7 +105,7 @@ returns-clause-went g c =
 
 pub returns-clause-none : goal.returns-clause-none
 returns-clause-none g c =
-    let l : LogState = record { opening = c.self.inside.opening; files = c.self.inside.files.items; newest = c.self.inside.newest; used = c.self.inside.used; rid = c.self.inside.rid; unsynced = c.self.inside.unsynced; ended = c.self.inside.ended } in
+    let l : LogState = record { opening = c.self.inside.opening; files = c.self.inside.files.items; older = c.self.inside.older; newest = c.self.inside.newest; used = c.self.inside.used; rid = c.self.inside.rid; unsynced = c.self.inside.unsynced; ended = c.self.inside.ended } in
     let sound : IsSound l = c.self.invariant (ap (λ (x : LogState). x.ended) c.self.view_is ∙ c.requires.unended) in
     let own = told_log_own l _ sound (subst (λ (x : LogState). IfSome (g.S.Site.told c.args.site.now) (OnDisk (LogThere x))) (sym c.self.view_is) c.requires.there) in
     let went = ended_own (Unit {0}) l.opening l.unsynced c.in_ok-sync_parts.field-0 (tt {0}) _ _ (told_syncs l.opening l.unsynced (Ok c.in_ok-sync_parts.field-0) _ _ own c.in_ok-sync_parts.ensures.told) in
@@ -126,7 +126,7 @@ returns-clause-stays g c = told_none_leaves _ _ (told_flush c.args.self.now c.se
 pub returns-in_err-sync_parts-clause-writes : goal.returns-in_err-sync_parts-clause-writes
 returns-in_err-sync_parts-clause-writes g c =
     let is : Err (fault_of_site c.in_err-sync_parts.field-0.0) ≡ c.from_residual.result = search (rules, c.from_residual.ensures) in
-    let new : LogState = record { opening = c.self.inside.opening; files = c.self.inside.files.items; newest = c.self.inside.newest; used = c.self.inside.used; rid = c.self.inside.rid; unsynced = c.self.inside.unsynced; ended = true } in
+    let new : LogState = record { opening = c.self.inside.opening; files = c.self.inside.files.items; older = c.self.inside.older; newest = c.self.inside.newest; used = c.self.inside.used; rid = c.self.inside.rid; unsynced = c.self.inside.unsynced; ended = true } in
     told_flush_err (fault_of_site c.in_err-sync_parts.field-0.0) c.from_residual.result c.args.self.now new _ _ is c.requires.there
     (told_flush c.args.self.now c.self.inside.unsynced (Err c.in_err-sync_parts.field-0.0) _ _ c.requires.there c.in_err-sync_parts.ensures.told)
 

@@ -15,7 +15,7 @@ use Rattle.qls_log.proofs.log.Log.release_before.Goals as goal
 
 pub give_back_each-requires : goal.give_back_each-requires
 give_back_each-requires g c =
-    let l : LogState = record { opening = c.self.inside.opening; files = c.self.inside.files.items; newest = c.self.inside.newest; used = c.self.inside.used; rid = c.self.inside.rid; unsynced = c.self.inside.unsynced; ended = c.self.inside.ended } in
+    let l : LogState = record { opening = c.self.inside.opening; files = c.self.inside.files.items; older = c.self.inside.older; newest = c.self.inside.newest; used = c.self.inside.used; rid = c.self.inside.rid; unsynced = c.self.inside.unsynced; ended = c.self.inside.ended } in
     let sound : IsSound l = c.self.invariant (ap (λ (x : LogState). x.ended) c.self.view_is ∙ c.requires.unended) in
     let there : IfSome (g.S.Site.told c.args.site.now) (OnDisk (LogThere l)) = subst (λ (x : LogState). IfSome (g.S.Site.told c.args.site.now) (OnDisk (LogThere x))) (sym c.self.view_is) c.requires.there in
     let given : List HeadedFile = c.replace-given.result.items in
@@ -26,7 +26,7 @@ give_back_each-requires g c =
 
 pub returns-in_err-give_back_each-clause-went : goal.returns-in_err-give_back_each-clause-went
 returns-in_err-give_back_each-clause-went g c =
-    let l : LogState = record { opening = c.self.inside.opening; files = c.self.inside.files.items; newest = c.self.inside.newest; used = c.self.inside.used; rid = c.self.inside.rid; unsynced = c.self.inside.unsynced; ended = c.self.inside.ended } in
+    let l : LogState = record { opening = c.self.inside.opening; files = c.self.inside.files.items; older = c.self.inside.older; newest = c.self.inside.newest; used = c.self.inside.used; rid = c.self.inside.rid; unsynced = c.self.inside.unsynced; ended = c.self.inside.ended } in
     let sound : IsSound l = c.self.invariant (ap (λ (x : LogState). x.ended) c.self.view_is ∙ c.requires.unended) in
     let there : IfSome (g.S.Site.told c.args.site.now) (OnDisk (LogThere l)) = subst (λ (x : LogState). IfSome (g.S.Site.told c.args.site.now) (OnDisk (LogThere x))) (sym c.self.view_is) c.requires.there in
     let given : List HeadedFile = c.replace-given.result.items in
@@ -40,7 +40,7 @@ returns-in_err-give_back_each-clause-went g c =
 
 pub returns-in_err-give_back_each-clause-none : goal.returns-in_err-give_back_each-clause-none
 returns-in_err-give_back_each-clause-none g c =
-    let l : LogState = record { opening = c.self.inside.opening; files = c.self.inside.files.items; newest = c.self.inside.newest; used = c.self.inside.used; rid = c.self.inside.rid; unsynced = c.self.inside.unsynced; ended = c.self.inside.ended } in
+    let l : LogState = record { opening = c.self.inside.opening; files = c.self.inside.files.items; older = c.self.inside.older; newest = c.self.inside.newest; used = c.self.inside.used; rid = c.self.inside.rid; unsynced = c.self.inside.unsynced; ended = c.self.inside.ended } in
     let sound : IsSound l = c.self.invariant (ap (λ (x : LogState). x.ended) c.self.view_is ∙ c.requires.unended) in
     let there : IfSome (g.S.Site.told c.args.site.now) (OnDisk (LogThere l)) = subst (λ (x : LogState). IfSome (g.S.Site.told c.args.site.now) (OnDisk (LogThere x))) (sym c.self.view_is) c.requires.there in
     let given : List HeadedFile = c.replace-given.result.items in
@@ -53,22 +53,22 @@ returns-in_err-give_back_each-clause-none g c =
 
 pub invariant_of-self-2 : goal.invariant_of-self-2
 invariant_of-self-2 g c = λ e.
-    let l : LogState = record { opening = c.self.inside.opening; files = c.self.inside.files.items; newest = c.self.inside.newest; used = c.self.inside.used; rid = c.self.inside.rid; unsynced = c.self.inside.unsynced; ended = c.self.inside.ended } in
+    let l : LogState = record { opening = c.self.inside.opening; files = c.self.inside.files.items; older = c.self.inside.older; newest = c.self.inside.newest; used = c.self.inside.used; rid = c.self.inside.rid; unsynced = c.self.inside.unsynced; ended = c.self.inside.ended } in
     let sound : IsSound l = c.self.invariant (ap (λ (x : LogState). x.ended) c.self.view_is ∙ c.requires.unended) in
     let there : IfSome (g.S.Site.told c.args.site.now) (OnDisk (LogThere l)) = subst (λ (x : LogState). IfSome (g.S.Site.told c.args.site.now) (OnDisk (LogThere x))) (sym c.self.view_is) c.requires.there in
     let given : List HeadedFile = c.replace-given.result.items in
     let kept : List HeadedFile = c.in_ok-kept.kept.items in
     let cut : given ++ kept ≡ l.files = cut_files c.count_released-count.result l.files given kept (search rules) c.in_ok-kept.ensures.tail in
     let may : IfSome (g.S.Site.told c.args.site.now) (OnDisk (MayReturn l.opening c.args.pool.now (given ++ kept))) = told_may_return l c.args.pool.now (given ++ kept) _ cut sound there c.requires.pool in
-    let new : LogState = record { opening = c.self.inside.opening; files = c.replace-given.new.dest.items; newest = c.self.inside.newest; used = c.self.inside.used; rid = c.self.inside.rid; unsynced = c.self.inside.unsynced; ended = false } in
+    let new : LogState = record { opening = c.self.inside.opening; files = c.replace-given.new.dest.items; older = c.saturating_sub-self-inside.result; newest = c.self.inside.newest; used = c.self.inside.used; rid = c.self.inside.rid; unsynced = c.self.inside.unsynced; ended = false } in
     let some : 0 < c.count_released-count.result = search rules in
     let flushed : l.unsynced ≡ [] = c.count_released-count.ensures.pending some in
     let files : new.files ≡ kept = search rules in
-    sound_without l new c.count_released-count.result sound (search rules) flushed refl (files ∙ c.in_ok-kept.ensures.tail) refl refl refl refl
+    sound_without l new c.count_released-count.result sound (search rules) flushed refl (files ∙ c.in_ok-kept.ensures.tail) (search rules) refl refl refl refl
 
 pub returns-clause-there : goal.returns-clause-there
 returns-clause-there g c =
-    let l : LogState = record { opening = c.self.inside.opening; files = c.self.inside.files.items; newest = c.self.inside.newest; used = c.self.inside.used; rid = c.self.inside.rid; unsynced = c.self.inside.unsynced; ended = c.self.inside.ended } in
+    let l : LogState = record { opening = c.self.inside.opening; files = c.self.inside.files.items; older = c.self.inside.older; newest = c.self.inside.newest; used = c.self.inside.used; rid = c.self.inside.rid; unsynced = c.self.inside.unsynced; ended = c.self.inside.ended } in
     let sound : IsSound l = c.self.invariant (ap (λ (x : LogState). x.ended) c.self.view_is ∙ c.requires.unended) in
     let there : IfSome (g.S.Site.told c.args.site.now) (OnDisk (LogThere l)) = subst (λ (x : LogState). IfSome (g.S.Site.told c.args.site.now) (OnDisk (LogThere x))) (sym c.self.view_is) c.requires.there in
     let given : List HeadedFile = c.replace-given.result.items in
@@ -76,7 +76,7 @@ returns-clause-there g c =
     let cut : given ++ kept ≡ l.files = cut_files c.count_released-count.result l.files given kept (search rules) c.in_ok-kept.ensures.tail in
     let may : IfSome (g.S.Site.told c.args.site.now) (OnDisk (MayReturn l.opening c.args.pool.now (given ++ kept))) = told_may_return l c.args.pool.now (given ++ kept) _ cut sound there c.requires.pool in
     let back : Tells (Returned l.opening c.give_back_each.new.pool kept given) (g.S.Site.told c.args.site.now) (g.S.Site.told c.give_back_each.new.site) = c.in_ok-give_back_each.ensures.back l.opening kept may in
-    let new : LogState = record { opening = c.self.inside.opening; files = c.replace-given.new.dest.items; newest = c.self.inside.newest; used = c.self.inside.used; rid = c.self.inside.rid; unsynced = c.self.inside.unsynced; ended = false } in
+    let new : LogState = record { opening = c.self.inside.opening; files = c.replace-given.new.dest.items; older = c.saturating_sub-self-inside.result; newest = c.self.inside.newest; used = c.self.inside.used; rid = c.self.inside.rid; unsynced = c.self.inside.unsynced; ended = false } in
     let some : 0 < c.count_released-count.result = search rules in
     let flushed : l.unsynced ≡ [] = c.count_released-count.ensures.pending some in
     let files : new.files ≡ kept = search rules in
@@ -84,7 +84,7 @@ returns-clause-there g c =
 
 pub returns-clause-pool : goal.returns-clause-pool
 returns-clause-pool g c =
-    let l : LogState = record { opening = c.self.inside.opening; files = c.self.inside.files.items; newest = c.self.inside.newest; used = c.self.inside.used; rid = c.self.inside.rid; unsynced = c.self.inside.unsynced; ended = c.self.inside.ended } in
+    let l : LogState = record { opening = c.self.inside.opening; files = c.self.inside.files.items; older = c.self.inside.older; newest = c.self.inside.newest; used = c.self.inside.used; rid = c.self.inside.rid; unsynced = c.self.inside.unsynced; ended = c.self.inside.ended } in
     let sound : IsSound l = c.self.invariant (ap (λ (x : LogState). x.ended) c.self.view_is ∙ c.requires.unended) in
     let there : IfSome (g.S.Site.told c.args.site.now) (OnDisk (LogThere l)) = subst (λ (x : LogState). IfSome (g.S.Site.told c.args.site.now) (OnDisk (LogThere x))) (sym c.self.view_is) c.requires.there in
     let given : List HeadedFile = c.replace-given.result.items in
@@ -96,7 +96,7 @@ returns-clause-pool g c =
 
 pub returns-clause-others : goal.returns-clause-others
 returns-clause-others g c =
-    let l : LogState = record { opening = c.self.inside.opening; files = c.self.inside.files.items; newest = c.self.inside.newest; used = c.self.inside.used; rid = c.self.inside.rid; unsynced = c.self.inside.unsynced; ended = c.self.inside.ended } in
+    let l : LogState = record { opening = c.self.inside.opening; files = c.self.inside.files.items; older = c.self.inside.older; newest = c.self.inside.newest; used = c.self.inside.used; rid = c.self.inside.rid; unsynced = c.self.inside.unsynced; ended = c.self.inside.ended } in
     let sound : IsSound l = c.self.invariant (ap (λ (x : LogState). x.ended) c.self.view_is ∙ c.requires.unended) in
     let there : IfSome (g.S.Site.told c.args.site.now) (OnDisk (LogThere l)) = subst (λ (x : LogState). IfSome (g.S.Site.told c.args.site.now) (OnDisk (LogThere x))) (sym c.self.view_is) c.requires.there in
     let given : List HeadedFile = c.replace-given.result.items in
@@ -112,7 +112,7 @@ returns-clause-others g c =
 
 pub returns-clause-went : goal.returns-clause-went
 returns-clause-went g c =
-    let l : LogState = record { opening = c.self.inside.opening; files = c.self.inside.files.items; newest = c.self.inside.newest; used = c.self.inside.used; rid = c.self.inside.rid; unsynced = c.self.inside.unsynced; ended = c.self.inside.ended } in
+    let l : LogState = record { opening = c.self.inside.opening; files = c.self.inside.files.items; older = c.self.inside.older; newest = c.self.inside.newest; used = c.self.inside.used; rid = c.self.inside.rid; unsynced = c.self.inside.unsynced; ended = c.self.inside.ended } in
     let sound : IsSound l = c.self.invariant (ap (λ (x : LogState). x.ended) c.self.view_is ∙ c.requires.unended) in
     let there : IfSome (g.S.Site.told c.args.site.now) (OnDisk (LogThere l)) = subst (λ (x : LogState). IfSome (g.S.Site.told c.args.site.now) (OnDisk (LogThere x))) (sym c.self.view_is) c.requires.there in
     let given : List HeadedFile = c.replace-given.result.items in
@@ -125,7 +125,7 @@ returns-clause-went g c =
 
 pub returns-clause-none : goal.returns-clause-none
 returns-clause-none g c =
-    let l : LogState = record { opening = c.self.inside.opening; files = c.self.inside.files.items; newest = c.self.inside.newest; used = c.self.inside.used; rid = c.self.inside.rid; unsynced = c.self.inside.unsynced; ended = c.self.inside.ended } in
+    let l : LogState = record { opening = c.self.inside.opening; files = c.self.inside.files.items; older = c.self.inside.older; newest = c.self.inside.newest; used = c.self.inside.used; rid = c.self.inside.rid; unsynced = c.self.inside.unsynced; ended = c.self.inside.ended } in
     let sound : IsSound l = c.self.invariant (ap (λ (x : LogState). x.ended) c.self.view_is ∙ c.requires.unended) in
     let there : IfSome (g.S.Site.told c.args.site.now) (OnDisk (LogThere l)) = subst (λ (x : LogState). IfSome (g.S.Site.told c.args.site.now) (OnDisk (LogThere x))) (sym c.self.view_is) c.requires.there in
     let given : List HeadedFile = c.replace-given.result.items in
@@ -140,8 +140,8 @@ returns-then-count-eq0-clause-writes g c = told_still_written (tt {0}) c.args.se
 
 pub returns-in_err-give_back_each-clause-writes : goal.returns-in_err-give_back_each-clause-writes
 returns-in_err-give_back_each-clause-writes g c =
-    let l : LogState = record { opening = c.self.inside.opening; files = c.self.inside.files.items; newest = c.self.inside.newest; used = c.self.inside.used; rid = c.self.inside.rid; unsynced = c.self.inside.unsynced; ended = c.self.inside.ended } in
-    let new : LogState = record { opening = c.self.inside.opening; files = c.replace-given.new.dest.items; newest = c.self.inside.newest; used = c.self.inside.used; rid = c.self.inside.rid; unsynced = c.self.inside.unsynced; ended = true } in
+    let l : LogState = record { opening = c.self.inside.opening; files = c.self.inside.files.items; older = c.self.inside.older; newest = c.self.inside.newest; used = c.self.inside.used; rid = c.self.inside.rid; unsynced = c.self.inside.unsynced; ended = c.self.inside.ended } in
+    let new : LogState = record { opening = c.self.inside.opening; files = c.replace-given.new.dest.items; older = c.self.inside.older; newest = c.self.inside.newest; used = c.self.inside.used; rid = c.self.inside.rid; unsynced = c.self.inside.unsynced; ended = true } in
     let there : IfSome (g.S.Site.told c.args.site.now) (OnDisk (LogThere l)) = subst (λ (x : LogState). IfSome (g.S.Site.told c.args.site.now) (OnDisk (LogThere x))) (sym c.self.view_is) c.requires.there in
     let is : Err (fault_of_site c.in_err-give_back_each.field-0.0) ≡ c.from_residual-in_err-give_back_each.result = search (rules, c.from_residual-in_err-give_back_each.ensures) in
     told_err_written (fault_of_site c.in_err-give_back_each.field-0.0) c.from_residual-in_err-give_back_each.result c.args.self.now new _ _ is
@@ -149,12 +149,12 @@ returns-in_err-give_back_each-clause-writes g c =
 
 pub returns-clause-writes : goal.returns-clause-writes
 returns-clause-writes g c =
-    let l : LogState = record { opening = c.self.inside.opening; files = c.self.inside.files.items; newest = c.self.inside.newest; used = c.self.inside.used; rid = c.self.inside.rid; unsynced = c.self.inside.unsynced; ended = c.self.inside.ended } in
+    let l : LogState = record { opening = c.self.inside.opening; files = c.self.inside.files.items; older = c.self.inside.older; newest = c.self.inside.newest; used = c.self.inside.used; rid = c.self.inside.rid; unsynced = c.self.inside.unsynced; ended = c.self.inside.ended } in
     let there : IfSome (g.S.Site.told c.args.site.now) (OnDisk (LogThere l)) = subst (λ (x : LogState). IfSome (g.S.Site.told c.args.site.now) (OnDisk (LogThere x))) (sym c.self.view_is) c.requires.there in
     let given : List HeadedFile = c.replace-given.result.items in
     let kept : List HeadedFile = c.in_ok-kept.kept.items in
     let cut : given ++ kept ≡ l.files = cut_files c.count_released-count.result l.files given kept (search rules) c.in_ok-kept.ensures.tail in
-    let new : LogState = record { opening = c.self.inside.opening; files = c.replace-given.new.dest.items; newest = c.self.inside.newest; used = c.self.inside.used; rid = c.self.inside.rid; unsynced = c.self.inside.unsynced; ended = false } in
+    let new : LogState = record { opening = c.self.inside.opening; files = c.replace-given.new.dest.items; older = c.saturating_sub-self-inside.result; newest = c.self.inside.newest; used = c.self.inside.used; rid = c.self.inside.rid; unsynced = c.self.inside.unsynced; ended = false } in
     let some : 0 < c.count_released-count.result = search rules in
     let flushed : l.unsynced ≡ [] = c.count_released-count.ensures.pending some in
     let files : new.files ≡ kept = search rules in

@@ -14,7 +14,7 @@ use Rattle.qls_log.proofs.log.Log.remove.Goals as goal
 
 pub give_back_each-requires : goal.give_back_each-requires
 give_back_each-requires g c =
-    let l : LogState = record { opening = c.self.inside.opening; files = c.self.inside.files.items; newest = c.self.inside.newest; used = c.self.inside.used; rid = c.self.inside.rid; unsynced = c.self.inside.unsynced; ended = c.self.inside.ended } in
+    let l : LogState = record { opening = c.self.inside.opening; files = c.self.inside.files.items; older = c.self.inside.older; newest = c.self.inside.newest; used = c.self.inside.used; rid = c.self.inside.rid; unsynced = c.self.inside.unsynced; ended = c.self.inside.ended } in
     let sound : IsSound l = c.self.invariant (ap (λ (x : LogState). x.ended) c.self.view_is ∙ c.requires.unended) in
     let there : IfSome (g.S.Site.told c.args.site.now) (OnDisk (LogThere l)) = subst (λ (x : LogState). IfSome (g.S.Site.told c.args.site.now) (OnDisk (LogThere x))) (sym c.self.view_is) c.requires.there in
     let may : IfSome (g.S.Site.told c.args.site.now) (OnDisk (MayReturn l.opening c.args.pool.now (l.files ++ []))) = told_may_return l c.args.pool.now (l.files ++ []) _ (append-nil l.files) sound there c.requires.pool in
@@ -22,7 +22,7 @@ give_back_each-requires g c =
 
 pub returns-in_err-give_back_each-clause-went : goal.returns-in_err-give_back_each-clause-went
 returns-in_err-give_back_each-clause-went g c =
-    let l : LogState = record { opening = c.self.inside.opening; files = c.self.inside.files.items; newest = c.self.inside.newest; used = c.self.inside.used; rid = c.self.inside.rid; unsynced = c.self.inside.unsynced; ended = c.self.inside.ended } in
+    let l : LogState = record { opening = c.self.inside.opening; files = c.self.inside.files.items; older = c.self.inside.older; newest = c.self.inside.newest; used = c.self.inside.used; rid = c.self.inside.rid; unsynced = c.self.inside.unsynced; ended = c.self.inside.ended } in
     let sound : IsSound l = c.self.invariant (ap (λ (x : LogState). x.ended) c.self.view_is ∙ c.requires.unended) in
     let there : IfSome (g.S.Site.told c.args.site.now) (OnDisk (LogThere l)) = subst (λ (x : LogState). IfSome (g.S.Site.told c.args.site.now) (OnDisk (LogThere x))) (sym c.self.view_is) c.requires.there in
     let may : IfSome (g.S.Site.told c.args.site.now) (OnDisk (MayReturn l.opening c.args.pool.now (l.files ++ []))) = told_may_return l c.args.pool.now (l.files ++ []) _ (append-nil l.files) sound there c.requires.pool in
@@ -32,7 +32,7 @@ returns-in_err-give_back_each-clause-went g c =
 
 pub returns-in_err-give_back_each-clause-none : goal.returns-in_err-give_back_each-clause-none
 returns-in_err-give_back_each-clause-none g c =
-    let l : LogState = record { opening = c.self.inside.opening; files = c.self.inside.files.items; newest = c.self.inside.newest; used = c.self.inside.used; rid = c.self.inside.rid; unsynced = c.self.inside.unsynced; ended = c.self.inside.ended } in
+    let l : LogState = record { opening = c.self.inside.opening; files = c.self.inside.files.items; older = c.self.inside.older; newest = c.self.inside.newest; used = c.self.inside.used; rid = c.self.inside.rid; unsynced = c.self.inside.unsynced; ended = c.self.inside.ended } in
     let sound : IsSound l = c.self.invariant (ap (λ (x : LogState). x.ended) c.self.view_is ∙ c.requires.unended) in
     let there : IfSome (g.S.Site.told c.args.site.now) (OnDisk (LogThere l)) = subst (λ (x : LogState). IfSome (g.S.Site.told c.args.site.now) (OnDisk (LogThere x))) (sym c.self.view_is) c.requires.there in
     let may : IfSome (g.S.Site.told c.args.site.now) (OnDisk (MayReturn l.opening c.args.pool.now (l.files ++ []))) = told_may_return l c.args.pool.now (l.files ++ []) _ (append-nil l.files) sound there c.requires.pool in
@@ -42,7 +42,7 @@ returns-in_err-give_back_each-clause-none g c =
 
 pub returns-clause-gone : goal.returns-clause-gone
 returns-clause-gone g c =
-    let l : LogState = record { opening = c.self.inside.opening; files = c.self.inside.files.items; newest = c.self.inside.newest; used = c.self.inside.used; rid = c.self.inside.rid; unsynced = c.self.inside.unsynced; ended = c.self.inside.ended } in
+    let l : LogState = record { opening = c.self.inside.opening; files = c.self.inside.files.items; older = c.self.inside.older; newest = c.self.inside.newest; used = c.self.inside.used; rid = c.self.inside.rid; unsynced = c.self.inside.unsynced; ended = c.self.inside.ended } in
     let sound : IsSound l = c.self.invariant (ap (λ (x : LogState). x.ended) c.self.view_is ∙ c.requires.unended) in
     let there : IfSome (g.S.Site.told c.args.site.now) (OnDisk (LogThere l)) = subst (λ (x : LogState). IfSome (g.S.Site.told c.args.site.now) (OnDisk (LogThere x))) (sym c.self.view_is) c.requires.there in
     let may : IfSome (g.S.Site.told c.args.site.now) (OnDisk (MayReturn l.opening c.args.pool.now (l.files ++ []))) = told_may_return l c.args.pool.now (l.files ++ []) _ (append-nil l.files) sound there c.requires.pool in
@@ -51,7 +51,7 @@ returns-clause-gone g c =
 
 pub returns-clause-pool : goal.returns-clause-pool
 returns-clause-pool g c =
-    let l : LogState = record { opening = c.self.inside.opening; files = c.self.inside.files.items; newest = c.self.inside.newest; used = c.self.inside.used; rid = c.self.inside.rid; unsynced = c.self.inside.unsynced; ended = c.self.inside.ended } in
+    let l : LogState = record { opening = c.self.inside.opening; files = c.self.inside.files.items; older = c.self.inside.older; newest = c.self.inside.newest; used = c.self.inside.used; rid = c.self.inside.rid; unsynced = c.self.inside.unsynced; ended = c.self.inside.ended } in
     let sound : IsSound l = c.self.invariant (ap (λ (x : LogState). x.ended) c.self.view_is ∙ c.requires.unended) in
     let there : IfSome (g.S.Site.told c.args.site.now) (OnDisk (LogThere l)) = subst (λ (x : LogState). IfSome (g.S.Site.told c.args.site.now) (OnDisk (LogThere x))) (sym c.self.view_is) c.requires.there in
     let may : IfSome (g.S.Site.told c.args.site.now) (OnDisk (MayReturn l.opening c.args.pool.now (l.files ++ []))) = told_may_return l c.args.pool.now (l.files ++ []) _ (append-nil l.files) sound there c.requires.pool in
@@ -60,7 +60,7 @@ returns-clause-pool g c =
 
 pub returns-clause-others : goal.returns-clause-others
 returns-clause-others g c =
-    let l : LogState = record { opening = c.self.inside.opening; files = c.self.inside.files.items; newest = c.self.inside.newest; used = c.self.inside.used; rid = c.self.inside.rid; unsynced = c.self.inside.unsynced; ended = c.self.inside.ended } in
+    let l : LogState = record { opening = c.self.inside.opening; files = c.self.inside.files.items; older = c.self.inside.older; newest = c.self.inside.newest; used = c.self.inside.used; rid = c.self.inside.rid; unsynced = c.self.inside.unsynced; ended = c.self.inside.ended } in
     let sound : IsSound l = c.self.invariant (ap (λ (x : LogState). x.ended) c.self.view_is ∙ c.requires.unended) in
     let there : IfSome (g.S.Site.told c.args.site.now) (OnDisk (LogThere l)) = subst (λ (x : LogState). IfSome (g.S.Site.told c.args.site.now) (OnDisk (LogThere x))) (sym c.self.view_is) c.requires.there in
     let may : IfSome (g.S.Site.told c.args.site.now) (OnDisk (MayReturn l.opening c.args.pool.now (l.files ++ []))) = told_may_return l c.args.pool.now (l.files ++ []) _ (append-nil l.files) sound there c.requires.pool in
@@ -69,7 +69,7 @@ returns-clause-others g c =
 
 pub returns-clause-went : goal.returns-clause-went
 returns-clause-went g c =
-    let l : LogState = record { opening = c.self.inside.opening; files = c.self.inside.files.items; newest = c.self.inside.newest; used = c.self.inside.used; rid = c.self.inside.rid; unsynced = c.self.inside.unsynced; ended = c.self.inside.ended } in
+    let l : LogState = record { opening = c.self.inside.opening; files = c.self.inside.files.items; older = c.self.inside.older; newest = c.self.inside.newest; used = c.self.inside.used; rid = c.self.inside.rid; unsynced = c.self.inside.unsynced; ended = c.self.inside.ended } in
     let sound : IsSound l = c.self.invariant (ap (λ (x : LogState). x.ended) c.self.view_is ∙ c.requires.unended) in
     let there : IfSome (g.S.Site.told c.args.site.now) (OnDisk (LogThere l)) = subst (λ (x : LogState). IfSome (g.S.Site.told c.args.site.now) (OnDisk (LogThere x))) (sym c.self.view_is) c.requires.there in
     let may : IfSome (g.S.Site.told c.args.site.now) (OnDisk (MayReturn l.opening c.args.pool.now (l.files ++ []))) = told_may_return l c.args.pool.now (l.files ++ []) _ (append-nil l.files) sound there c.requires.pool in
@@ -79,7 +79,7 @@ returns-clause-went g c =
 
 pub returns-clause-none : goal.returns-clause-none
 returns-clause-none g c =
-    let l : LogState = record { opening = c.self.inside.opening; files = c.self.inside.files.items; newest = c.self.inside.newest; used = c.self.inside.used; rid = c.self.inside.rid; unsynced = c.self.inside.unsynced; ended = c.self.inside.ended } in
+    let l : LogState = record { opening = c.self.inside.opening; files = c.self.inside.files.items; older = c.self.inside.older; newest = c.self.inside.newest; used = c.self.inside.used; rid = c.self.inside.rid; unsynced = c.self.inside.unsynced; ended = c.self.inside.ended } in
     let sound : IsSound l = c.self.invariant (ap (λ (x : LogState). x.ended) c.self.view_is ∙ c.requires.unended) in
     let there : IfSome (g.S.Site.told c.args.site.now) (OnDisk (LogThere l)) = subst (λ (x : LogState). IfSome (g.S.Site.told c.args.site.now) (OnDisk (LogThere x))) (sym c.self.view_is) c.requires.there in
     let may : IfSome (g.S.Site.told c.args.site.now) (OnDisk (MayReturn l.opening c.args.pool.now (l.files ++ []))) = told_may_return l c.args.pool.now (l.files ++ []) _ (append-nil l.files) sound there c.requires.pool in
@@ -88,12 +88,12 @@ returns-clause-none g c =
 
 pub returns-in_err-give_back_each-clause-writes : goal.returns-in_err-give_back_each-clause-writes
 returns-in_err-give_back_each-clause-writes g c =
-    let l : LogState = record { opening = c.self.inside.opening; files = c.self.inside.files.items; newest = c.self.inside.newest; used = c.self.inside.used; rid = c.self.inside.rid; unsynced = c.self.inside.unsynced; ended = c.self.inside.ended } in
+    let l : LogState = record { opening = c.self.inside.opening; files = c.self.inside.files.items; older = c.self.inside.older; newest = c.self.inside.newest; used = c.self.inside.used; rid = c.self.inside.rid; unsynced = c.self.inside.unsynced; ended = c.self.inside.ended } in
     let there : IfSome (g.S.Site.told c.args.site.now) (OnDisk (LogThere l)) = subst (λ (x : LogState). IfSome (g.S.Site.told c.args.site.now) (OnDisk (LogThere x))) (sym c.self.view_is) c.requires.there in
     told_backs_well l l.files (Err c.in_err-give_back_each.field-0.0) _ _ there c.in_err-give_back_each.ensures.told
 
 pub returns-clause-writes : goal.returns-clause-writes
 returns-clause-writes g c =
-    let l : LogState = record { opening = c.self.inside.opening; files = c.self.inside.files.items; newest = c.self.inside.newest; used = c.self.inside.used; rid = c.self.inside.rid; unsynced = c.self.inside.unsynced; ended = c.self.inside.ended } in
+    let l : LogState = record { opening = c.self.inside.opening; files = c.self.inside.files.items; older = c.self.inside.older; newest = c.self.inside.newest; used = c.self.inside.used; rid = c.self.inside.rid; unsynced = c.self.inside.unsynced; ended = c.self.inside.ended } in
     let there : IfSome (g.S.Site.told c.args.site.now) (OnDisk (LogThere l)) = subst (λ (x : LogState). IfSome (g.S.Site.told c.args.site.now) (OnDisk (LogThere x))) (sym c.self.view_is) c.requires.there in
     told_backs_well l l.files (Ok (tt {0})) _ _ there c.in_ok-give_back_each.ensures.told
