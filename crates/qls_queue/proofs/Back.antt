@@ -1,13 +1,12 @@
 -- A batch is written, and then the files that died by it go back.
-use Rattle.std.proofs.Common.{◌≡◌, ◌⊎◌, inl, inr, ℕ, ◌+◌, ◌≤◌, Bool, true, false, cond, ◌||◌, ◌==◌, List, [], ◌∷◌, ◌++◌, length, Option, Some, None, Result, Ok, Err, IsErr, IfOk, IfErr, refl, sym, ap, ◌∙◌, subst, arith}
+use Rattle.std.proofs.Common.{◌≡◌, ◌⊎◌, inl, inr, ℕ, Bool, true, false, cond, ◌||◌, ◌==◌, List, [], ◌∷◌, length, Option, Some, None, Result, Ok, Err, IfOk, IfErr, refl, sym, ap, ◌∙◌, subst, arith}
 use Rattle.std.specs.Prelude.{nat_lt}
 use Rattle.std.specs.List.{AllByRecursion}
 use Rattle.qls_record.specs.Record.{Record}
 use Rattle.qls_site.specs.Disk.{Disk, FileState, Image, IsQuiet, file_of}
-use Rattle.qls_site.specs.Content.{Moment, Content, Tells, Rose, moments_since}
+use Rattle.qls_site.specs.Content.{Moment, Content, Tells, moments_since}
 use Rattle.qls_site.proofs.DiskLaws.{only_image}
-use Rattle.qls_meaning.specs.Journals.{journal, headed, in_use, is_in_use}
-use Rattle.qls_meaning.specs.History.{AllUnmarked}
+use Rattle.qls_meaning.specs.Journals.{journal, headed, in_use}
 use Rattle.qls_pool.specs.Pools.{PoolState}
 use Rattle.qls_pool.specs.Files.{HeadedFile, Carries, is_among}
 use Rattle.qls_pool.specs.Moments.{Chain, Passes, Arrives}
@@ -22,7 +21,7 @@ use Rattle.qls_log.specs.Leaving.{RemainsInUse, NoneLeaves, LeavesFile, LeavesIn
 use Rattle.qls_queue.specs.declared.fault.QueueError.{QueueError}
 use Rattle.qls_queue.specs.declared.fault.QueueError.TheVariants.{Failed, Draw, Spent, Memory}
 use Rattle.qls_queue.specs.Faults.{is_fault, is_end, QueueCauses, SiteCauses}
-use Rattle.qls_queue.specs.Live.{LiveState, IsSound, IsQueueRead, QueueReadsOn}
+use Rattle.qls_queue.specs.Live.{LiveState, IsSound, QueueReadsOn}
 use Rattle.qls_queue.specs.Moments.{LeavesDead}
 use Rattle.qls_queue.specs.Releasing.{dead_files, after_release, first_needed, GivesDead, HasWrittenAndReleased, IsQueueWhole, IsQueueClean, BecomesClean, StaysWhole}
 use Rattle.qls_queue.specs.Writing.{HasWritten}

@@ -1,6 +1,5 @@
 -- A queue that was just made: its only file is its newest one.
-use Rattle.std.proofs.Common.{◌≡◌, ℕ, ◌+◌, Bool, true, false, not, ◌&&◌, List, [], ◌∷◌, map, Option, Some, None, IfSome, refl, sym, ap, ◌∙◌, subst}
-use Rattle.qls_record.specs.Record.{Record}
+use Rattle.std.proofs.Common.{◌≡◌, ℕ, Bool, false, not, ◌&&◌, List, [], ◌∷◌, map, Option, Some, None, IfSome, refl, sym, ap, ◌∙◌, subst}
 use Rattle.qls_model.specs.declared.machine.QueueState.{QueueState}
 use Rattle.qls_site.specs.Disk.{Disk}
 use Rattle.qls_site.specs.Content.{Content, Tells}
@@ -14,7 +13,7 @@ use Rattle.qls_enqmap.specs.declared.Held.{Held}
 use Rattle.qls_pool.specs.Files.{HeadedFile, OnDisk}
 use Rattle.qls_pool.proofs.Disks.{eqb_own}
 use Rattle.qls_log.specs.declared.opening.Opening.{Opening}
-use Rattle.qls_log.specs.Logs.{LogState, capacity_in, header_for}
+use Rattle.qls_log.specs.Logs.{LogState, capacity_in}
 use Rattle.qls_log.specs.Standing.{LogThere, AreThoseFiles, files_on}
 use Rattle.qls_log.specs.Reads.{IsRead, BeginsReading}
 use Rattle.qls_log.specs.Soundness.{IsUndamaged, BeginsUndamaged}

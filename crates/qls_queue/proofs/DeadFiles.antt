@@ -11,27 +11,31 @@ use Rattle.qls_filehdr.specs.declared.JournalKind.{JournalKind}
 use Rattle.qls_filehdr.specs.declared.JournalKind.TheVariants.{Queue}
 use Rattle.qls_enqmap.specs.declared.Held.{Held}
 use Rattle.qls_enqmap.specs.Records.{least_file}
-use Rattle.qls_meaning.specs.Journals.{Headed, Journal, is_queue}
-use Rattle.qls_meaning.specs.Reading.{Placed, Read, holder, stream, number_of, located, first_place, end_from, epoch_reading, journal_reading}
+use Rattle.qls_meaning.specs.Journals.{Headed, Journal, is_queue, epochs}
+use Rattle.qls_meaning.specs.Reading.{Placed, Read, holder, stream, number_of, located, begin_place, epoch_reading, reads_of, journal_reading}
 use Rattle.qls_meaning.specs.Damage.{oldest_rid}
 use Rattle.qls_meaning.specs.Dead.{newest_number, oldest_number, held_rids, holds, is_dead, has_dead_oldest, first_is_dead}
 use Rattle.qls_meaning.specs.Meaning.{queue_of, entries_of}
 use Rattle.qls_meaning.specs.Orderly.{journal_on}
 use Rattle.qls_laws.specs.Readings.{Stand}
-use Rattle.qls_laws.specs.Returns.{IsWholeRun, starts_elsewhere}
-use Rattle.qls_laws.proofs.Claimed.{AllKeep, keeps_rules, reading_of_run}
-use Rattle.qls_laws.proofs.DeadQueue.{run, dead_queue}
+use Rattle.qls_laws.specs.Returns.{starts_elsewhere}
+use Rattle.qls_laws.proofs.DeadQueue.{run}
 use Rattle.qls_laws.proofs.Ends.{record_fits}
 use Rattle.qls_laws.proofs.Reaches.{records_stand}
-use Rattle.qls_laws.proofs.Returned.{AllAbove, numbers_rise, parted, reading_all}
-use Rattle.qls_laws.proofs.Rising.{Follow, rids_follow}
+use Rattle.qls_laws.proofs.Returned.{AllAbove, numbers_rise}
+use Rattle.qls_laws.proofs.Seen.{All-epochs}
+use Rattle.qls_epochs.specs.Whole.{IsWhole}
+use Rattle.qls_epochs.proofs.Alls.{all_both}
+use Rattle.qls_epochs.proofs.Dead.{dead_queue}
+use Rattle.qls_epochs.proofs.Follows.{Follows, whole_follows}
+use Rattle.qls_epochs.proofs.Oldest.{part}
 use Rattle.qls_replay.specs.Held.{messages_of, held_after_all, is_of}
 use Rattle.qls_replay.proofs.Whole.{all_records, all_files}
 use Rattle.qls_log.specs.Logs.{LogState, IsSound}
 use Rattle.qls_log.specs.Standing.{LogThere, files_on}
 use Rattle.qls_log.specs.Soundness.{IsKeptWithout, log_without_oldest}
 use Rattle.qls_log.proofs.SoundLess.{log_less}
-use Rattle.qls_log.proofs.SoundRun.{log_is_whole}
+use Rattle.qls_log.proofs.SoundRun.{log_whole}
 use Rattle.qls_queue.specs.Live.{live}
 use Rattle.qls_queue.specs.Releasing.{file_or, IsQueueWhole}
 use Rattle.qls_queue.proofs.HeldFiles.{Rise, OwnFile, AboveFile, each_own, none_held, least_held, held_without}
@@ -64,41 +68,36 @@ all_end n fs p (r ∷ rs) a s =
     let fits = record_fits fs p r.what s.1 in
     (least_number n fs (r.after - 1) a (omega (arith, fits.0, fits.1, s.2)), all_end n fs r.after rs a s.3)
 
-follow_rise : (fs : List Headed) (rid : ℕ) (rs : List Placed) → Follow rid rs → Rise rid (map (located fs) rs)
-follow_rise fs rid [] h = tt
-follow_rise fs rid (r ∷ rs) h = (h.0, follow_rise fs r.what.rid rs h.1)
+follows_rise : (rid : ℕ) (rs : List Read) → Follows rid (map (λ r. r.what) rs) → Rise rid rs
+follows_rise rid [] h = tt
+follows_rise rid (r ∷ rs) h = (h.0, follows_rise r.what.rid rs h.1)
 
--- ---- a whole run
+-- ---- a whole journal
 
-module _ (kind : JournalKind) (name : List ℕ) (fs : List Headed) (some : 0 < length fs) (w : IsWholeRun (run kind name fs)) where
-  abbrev rs : List Placed
-  rs = epoch_reading true fs
+-- its rids follow from the one in the oldest file's header
+whole_rises : (kind : JournalKind) (name : List ℕ) (fs : List Headed) → 0 < length fs → IsWhole (run kind name fs) → Rise (oldest_rid fs) (journal_reading (run kind name fs))
+whole_rises kind name [] some w = absurd (omega (arith, some))
+whole_rises kind name (f ∷ fs) some w = follows_rise f.header.rid (journal_reading (run kind name (f ∷ fs))) (whole_follows (run kind name (f ∷ fs)) f fs w)
 
-  stands : Stand fs (first_place fs) rs
-  stands = records_stand fs (length (stream fs) / 128) (first_place fs)
+-- no record ends before a file of the least number
+reads_end : (n : ℕ) (oldest : Bool) (es : List (List Headed)) → AllByRecursion (AllByRecursion (λ f. n ≤ f.header.number)) es → AllByRecursion (λ r. n ≤ r.end_file) (reads_of oldest es)
+reads_end n oldest [] a = tt
+reads_end n oldest (e ∷ es) a =
+    all_both (λ r. n ≤ r.end_file) (map (located e) (epoch_reading oldest e)) (reads_of false es)
+    (all_end n e (begin_place oldest e) (epoch_reading oldest e) a.0 (records_stand e (length (stream e) / 128) (begin_place oldest e))) (reads_end n false es a.1)
 
-  reads_are : journal_reading (run kind name fs) ≡ map (located fs) rs
-  reads_are = reading_of_run w.epoch kind name fs w.one some
-
-  -- its rids follow from the one in the oldest file's header
-  pub run_rises : Rise (oldest_rid fs) (journal_reading (run kind name fs))
-  run_rises =
-      let keeps : AllKeep (first_place fs) (end_from (first_place fs) rs) (oldest_rid fs) rs 0 fs = keeps_rules w.epoch kind name fs w.one w.rules.reading in
-      subst (Rise (oldest_rid fs)) (sym reads_are) (follow_rise fs (oldest_rid fs) rs (rids_follow (first_place fs) (end_from (first_place fs) rs) (oldest_rid fs) (first_place fs) fs rs keeps stands))
-
-  -- no record ends before a file of the least number
-  pub run_ends : (n : ℕ) → AllByRecursion (λ f. n ≤ f.header.number) fs → AllByRecursion (λ r. n ≤ r.end_file) (journal_reading (run kind name fs))
-  run_ends n a = subst (AllByRecursion (λ r. n ≤ r.end_file)) (sym reads_are) (all_end n fs (first_place fs) rs a stands)
+all_reads_end : (n : ℕ) (kind : JournalKind) (name : List ℕ) (fs : List Headed) → AllByRecursion (λ f. n ≤ f.header.number) fs → AllByRecursion (λ r. n ≤ r.end_file) (journal_reading (run kind name fs))
+all_reads_end n kind name fs a = reads_end n true (epochs fs) (All-epochs (λ f. n ≤ f.header.number) fs a)
 
 -- the records that start in the oldest file, and those of the others
 pub record Fronted (kind : JournalKind) (name : List ℕ) (fs : List Headed) : Type 0 where
   pub front : List Read
   pub is : journal_reading (run kind name fs) ≡ front ++ journal_reading (run kind name (drop 1 fs))
 
-pub fronted : (kind : JournalKind) (name : List ℕ) (fs : List Headed) → 1 < length fs → IsWholeRun (run kind name fs) → Fronted kind name fs
+pub fronted : (kind : JournalKind) (name : List ℕ) (fs : List Headed) → 1 < length fs → IsWhole (run kind name fs) → Fronted kind name fs
 fronted kind name [] more w = absurd (omega (arith, more))
 fronted kind name (f ∷ []) more w = absurd (omega (arith, more))
-fronted kind name (f ∷ g ∷ fs) more w = record { front = map (located (f ∷ g ∷ fs)) (parted kind name f g fs w).front; is = reading_all kind name f g fs w }
+fronted kind name (f ∷ g ∷ fs) more w = let p = part kind name f g fs w in record { front = p.front; is = p.is }
 
 -- ---- the oldest file
 
@@ -126,8 +125,8 @@ module _ (l : LogState) (hs : List Held) (b : Bool) (d : Disk) (kind : l.opening
   abbrev reads : List Read
   reads = whole.read.reads
 
-  pub whole_run : IsWholeRun j
-  whole_run = log_is_whole l d reads sound there whole.undamaged whole.read.read
+  pub whole_journal : IsWhole j
+  whole_journal = log_whole l d sound there whole.undamaged
 
   queue_kind : is_queue l.opening.kind ≡ true
   queue_kind = ap is_queue kind
@@ -140,7 +139,7 @@ module _ (l : LogState) (hs : List Held) (b : Bool) (d : Disk) (kind : l.opening
   held_own : 0 < length fs → AllByRecursion (λ r. is_enqueue r.what.kind ≡ true → OwnFile r.what.rid r.file hs) (journal_reading j)
   held_own some =
       subst (λ (gs : List Held). AllByRecursion (λ r. is_enqueue r.what.kind ≡ true → OwnFile r.what.rid r.file gs) (journal_reading j)) (ap (λ (xs : List Read). held_after_all xs []) whole.read.read.reading ∙ whole.read.held)
-      (each_own (oldest_rid fs) (journal_reading j) [] (run_rises l.opening.kind l.opening.name fs some whole_run) tt)
+      (each_own (oldest_rid fs) (journal_reading j) [] (whole_rises l.opening.kind l.opening.name fs some whole_journal) tt)
 
   held_read : AllByRecursion (λ h. list_any (is_of h) (journal_reading j) ≡ true) hs
   held_read =
@@ -150,7 +149,7 @@ module _ (l : LogState) (hs : List Held) (b : Bool) (d : Disk) (kind : l.opening
   -- it holds nothing where every held record starts behind it
   pub oldest_dead : (f g : Headed) (rest : List Headed) → fs ≡ f ∷ g ∷ rest → AboveFile f.header.number hs → is_dead j f ≡ true
   oldest_dead f g rest e above =
-      let rises : AllAbove f.header.number (g ∷ rest) = numbers_rise f (g ∷ rest) (subst (λ (xs : List Headed). Rattle.qls_meaning.specs.Damage.chain_claims xs ≡ Rattle.std.proofs.Common.Ok tt) e whole_run.rules.chain) in
+      let rises : AllAbove f.header.number (g ∷ rest) = numbers_rise f (g ∷ rest) (subst (λ (xs : List Headed). Rattle.qls_meaning.specs.Damage.chain_claims xs ≡ Rattle.std.proofs.Common.Ok tt) e whole_journal.rules.chain) in
       let newest : (f.header.number == newest_number fs) ≡ false = ap (λ (xs : List Headed). f.header.number == newest_number xs) e ∙ differs f.header.number (newest_number (g ∷ rest)) (newest_above f.header.number g rest rises) in
       let some : 0 < length fs = omega (arith, ap length e) in
       let none : list_any (holds (held_rids j) f.header.number) (journal_reading j) ≡ false =
@@ -167,11 +166,11 @@ module _ (l : LogState) (hs : List Held) (b : Bool) (d : Disk) (kind : l.opening
   oldest_alive newest f rest e less least =
       let n : ℕ = f.header.number in
       let some : 0 < length fs = omega (arith, ap length e) in
-      let rises : AllAbove n rest = numbers_rise f rest (subst (λ (xs : List Headed). Rattle.qls_meaning.specs.Damage.chain_claims xs ≡ Rattle.std.proofs.Common.Ok tt) e whole_run.rules.chain) in
+      let rises : AllAbove n rest = numbers_rise f rest (subst (λ (xs : List Headed). Rattle.qls_meaning.specs.Damage.chain_claims xs ≡ Rattle.std.proofs.Common.Ok tt) e whole_journal.rules.chain) in
       let all : AllByRecursion (λ g. n ≤ g.header.number) fs = subst (AllByRecursion (λ g. n ≤ g.header.number)) (sym e) (omega arith, all_most n rest rises) in
       let any : list_any (holds (held_rids j) n) (journal_reading j) ≡ true =
       ap (λ (rids : List ℕ). list_any (holds rids n) (journal_reading j)) rids_are
-      ∙ least_held n newest hs (journal_reading j) held_read (run_ends l.opening.kind l.opening.name fs some whole_run n all) less least in
+      ∙ least_held n newest hs (journal_reading j) held_read (all_reads_end n l.opening.kind l.opening.name fs all) less least in
       ap (first_is_dead j) e ∙ ap (λ x. not (n == newest_number fs) && not x) any ∙ no_and (not (n == newest_number fs))
 
   -- ---- the journal without it
@@ -187,10 +186,10 @@ module _ (l : LogState) (hs : List Held) (b : Bool) (d : Disk) (kind : l.opening
     sound_without = less_log.0
 
     queue_without : queue_of (journal_on e l.opening.kind l.opening.name) ≡ (live l hs b).queue
-    queue_without = ap (λ (xs : List Headed). queue_of (run l.opening.kind l.opening.name xs)) is ∙ dead_queue j whole_run dead queue_kind ∙ whole.read.queue
+    queue_without = ap (λ (xs : List Headed). queue_of (run l.opening.kind l.opening.name xs)) is ∙ dead_queue j whole_journal dead queue_kind ∙ whole.read.queue
 
     split : Fronted l.opening.kind l.opening.name fs
-    split = fronted l.opening.kind l.opening.name fs (omega (arith, count, more)) whole_run
+    split = fronted l.opening.kind l.opening.name fs (omega (arith, count, more)) whole_journal
 
     reads_split : reads ≡ split.front ++ rest
     reads_split = sym whole.read.read.reading ∙ split.is ∙ ap (λ (xs : List Headed). split.front ++ journal_reading (run l.opening.kind l.opening.name xs)) (sym is)

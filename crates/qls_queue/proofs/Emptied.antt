@@ -17,7 +17,7 @@ use Rattle.qls_log.specs.Logs.{LogState, IsSound, capacity_in}
 use Rattle.qls_log.specs.Standing.{LogThere, files_on}
 use Rattle.qls_log.specs.Leaving.{LeavesInOrder}
 use Rattle.qls_log.specs.Returning.{GivesAll, with_backs}
-use Rattle.qls_log.proofs.Behind.{those_count}
+use Rattle.qls_log.proofs.Older.{those_count}
 use Rattle.qls_queue.specs.Live.{live}
 use Rattle.qls_queue.specs.Moments.{LeavesDead}
 use Rattle.qls_queue.specs.Releasing.{IsQueueWhole}
@@ -28,7 +28,7 @@ module _ (l : LogState) (hs : List Held) (b : Bool) (kind : l.opening.kind ≡ Q
   module _ (h : HeadedFile) (sound : IsSound (record l { files = h ∷ [] })) (x y : Content) (there : LogThere (record l { files = h ∷ [] }) x.now.disk) (quiet : IsQuiet x.now.disk) (whole : IsQueueWhole (live (record l { files = h ∷ [] }) hs b) x.now.disk) where
     only_leaves : LeavesInOrder x.now (put_back h.id h.header x.now)
     only_leaves =
-        leaves_one l.opening h x.now (old_file l h [] x.now.disk sound there) quiet there.there.differ (old_found l h [] x.now.disk sound there) (old_rests l h [] x.now.disk sound there flushed) sound.legal.0 sound.own.0
+        leaves_one l.opening h x.now (old_file l h [] x.now.disk sound there) quiet there.there.differ (old_found l h [] x.now.disk sound there) (old_rests l h [] x.now.disk sound there flushed) sound.legal.0 sound.all.0
         (inr (inr (those_count (capacity_in l.opening) (h ∷ []) (files_on l.opening x.now.disk) there.there.files, ap is_queue kind, ap (λ (q : QueueState). q.messages) whole.read.queue ∙ empty)))
 
     stopped_by : (before : List HeadedFile) (file : HeadedFile) (after : List HeadedFile) (e : SiteError) → h ∷ [] ≡ before ++ file ∷ after

@@ -1,5 +1,5 @@
 -- By the answer of a queue's call: the moments that it added, what it drew and what it wrote.
-use Rattle.std.proofs.Common.{◌≡◌, ℕ, Bool, true, false, List, Option, Some, None, Result, Ok, Err, IsErr, IfOk, refl, ap, ◌∙◌, subst}
+use Rattle.std.proofs.Common.{◌≡◌, ℕ, Bool, true, false, List, Option, Result, Ok, Err, IsErr, IfOk, refl, ap, ◌∙◌, subst}
 use Rattle.qls_site.specs.Content.{Moment, Content, Tells}
 use Rattle.qls_site.proofs.Told.{Tells-then, Tells-weaken}
 use Rattle.qls_meaning.specs.History.{History, FreeArea}
@@ -14,7 +14,7 @@ use Rattle.qls_log.specs.Unwritten.{IsWrittenTo}
 use Rattle.qls_queue.specs.declared.fault.QueueError.{QueueError}
 use Rattle.qls_queue.specs.Faults.{fault_of_log}
 use Rattle.qls_queue.specs.Live.{LiveState}
-use Rattle.qls_queue.specs.Moments.{is_exact, is_exact_error, ArrivesOr, GoesBy, StaysWritten, BeginsWritten}
+use Rattle.qls_queue.specs.Moments.{is_exact, is_exact_error, ArrivesOr, GoesBy, BeginsWritten}
 use Rattle.qls_queue.proofs.Then.{Writes, Whatever}
 
 module _ (R : Moment → Moment → Type 0) where

@@ -17,3 +17,4 @@ pub mod Unlinked
 pub mod GoneDead
 pub mod Released
 pub mod Emptied
+pub mod Opened

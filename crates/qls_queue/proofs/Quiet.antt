@@ -1,9 +1,9 @@
 -- Nothing is pending behind a batch that is appended and flushed, where nothing was before.
-use Rattle.std.proofs.Common.{◌≡◌, ℕ, ◌+◌, ◌-◌, Bool, true, false, cond, ◌||◌, ◌==◌, eqb, ltb, List, [], ◌∷◌, ◌++◌, take, drop, map, Option, Some, None, Result, Ok, Err, refl, sym, ap, ◌∙◌, subst, arith}
+use Rattle.std.proofs.Common.{◌≡◌, ℕ, ◌+◌, ◌-◌, Bool, true, false, cond, ◌||◌, ◌==◌, eqb, ltb, List, [], ◌∷◌, ◌++◌, take, drop, Option, Some, None, Ok, refl, sym, ap, ◌∙◌, subst}
 use Rattle.std.specs.List.{AllByRecursion}
 use Rattle.qls_model.specs.declared.machine.PoolId.{PoolId}
 use Rattle.qls_record.specs.Record.{Record}
-use Rattle.qls_site.specs.Disk.{Disk, FileState, IsQuiet, changed, change_file, with_file, write_at, sync_at, relocate_at, all_written}
+use Rattle.qls_site.specs.Disk.{Disk, FileState, IsQuiet, changed, change_file, with_file, write_at, sync_at, all_written}
 use Rattle.qls_site.specs.Content.{Content, Tells, Acts}
 use Rattle.qls_site.specs.declared.site.Place.TheVariants.{InUse}
 use Rattle.qls_filehdr.specs.Header.{header_spelling}
@@ -14,7 +14,7 @@ use Rattle.qls_pool.specs.Files.{HeadedFile, Carries, is_among}
 use Rattle.qls_pool.proofs.Disks.{eqb_is, eqb_own}
 use Rattle.qls_log.specs.Logs.{LogState, capacity_in, ids}
 use Rattle.qls_log.specs.Taking.{TakesFile, TakesFiles}
-use Rattle.qls_log.specs.Writing.{WritesAll, with_parts, with_write}
+use Rattle.qls_log.specs.Writing.{with_parts, with_write}
 use Rattle.qls_log.specs.Appending.{HasAppended, TakesAndWrites, IsQuietBut, written_files, written_place, batch_bytes}
 
 -- ---- a file that is taken

@@ -10,7 +10,7 @@ use Rattle.qls_pool.specs.Moments.{Passes}
 use Rattle.qls_pool.proofs.Moments.{Passes-of, Passes-same}
 use Rattle.qls_replay.specs.Held.{messages_of}
 use Rattle.qls_log.specs.declared.fault.LogError.{LogError}
-use Rattle.qls_log.specs.Logs.{LogState}
+use Rattle.qls_log.specs.Logs.{LogState, without_first}
 use Rattle.qls_log.specs.Logs as logs
 use Rattle.qls_log.specs.Standing.{LogThere}
 use Rattle.qls_log.specs.Leaving.{LeavesInOrder}
@@ -31,8 +31,8 @@ flushed_released n l e = ap (λ (own : List ℕ). cond (length own == 0) (before
 pub needed_is : (number newest last : ℕ) (held hs : List Held) → number ≡ file_or newest (least_file held) → newest ≡ last → held ≡ hs → number ≡ file_or last (least_file hs)
 needed_is number newest last held hs a b c = a ∙ ap (λ n. file_or n (least_file held)) b ∙ ap (λ (gs : List Held). file_or last (least_file gs)) c
 
-pub log_is : (l new : LogState) (number n : ℕ) → number ≡ n → new ≡ record l { files = drop (length (released number l)) l.files } → new ≡ record l { files = drop (length (released n l)) l.files }
-log_is l new number n e is = is ∙ ap (λ k. record l { files = drop (length (released k l)) l.files }) e
+pub log_is : (l new : LogState) (number n : ℕ) → number ≡ n → new ≡ without_first (length (released number l)) l → new ≡ without_first (length (released n l)) l
+log_is l new number n e is = is ∙ ap (λ k. without_first (length (released k l)) l) e
 
 no_message : (hs : List Held) → messages_of hs ≡ [] → hs ≡ []
 no_message [] e = refl
@@ -46,25 +46,25 @@ module _ (l : LogState) (hs : List Held) (sound : logs.IsSound l) (kind : l.open
   gone = before_number needed l.files
 
   abbrev kept : LogState
-  kept = record l { files = drop (length gone) l.files }
+  kept = without_first (length gone) l
 
   gone_are : released needed l ≡ gone
   gone_are = flushed_released needed l flushed
 
-  kept_is : record l { files = drop (length (released needed l)) l.files } ≡ kept
-  kept_is = ap (λ (ds : List HeadedFile). record l { files = drop (length ds) l.files }) gone_are
+  kept_is : without_first (length (released needed l)) l ≡ kept
+  kept_is = ap (λ (ds : List HeadedFile). without_first (length ds) l) gone_are
 
   kept_sound : logs.IsSound kept
-  kept_sound = sound_without l kept (length gone) sound (shorter needed l.files gone sound.some (first_below needed l.files)) flushed refl refl refl refl refl refl
+  kept_sound = sound_without l kept (length gone) sound (shorter needed l.files gone sound.some (first_below needed l.files)) flushed refl refl refl refl refl refl refl
 
   stopped : Stops needed kept.files
   stopped = stops needed l.files sound.some
 
-  start : (d : Disk) → LogThere l d → IsQueueWhole (live l hs false) d → Ready l hs false l.files d
+  start : (d : Disk) → LogThere l d → IsQueueWhole (live l hs false) d → Ready l hs false l.older l.files d
   start d there whole = record { sound = sound; there = there; whole = whole }
 
   -- what the log became
-  module _ (new : LogState) (is : new ≡ record l { files = drop (length (released needed l)) l.files }) where
+  module _ (new : LogState) (is : new ≡ without_first (length (released needed l)) l) where
     new_is : new ≡ kept
     new_is = is ∙ kept_is
 
@@ -93,9 +93,9 @@ module _ (l : LogState) (hs : List Held) (sound : logs.IsSound l) (kind : l.open
     clean : (x y : Content) → LogThere l x.now.disk → y ≡ with_backs (released needed l) x → IsQueueWhole (live l hs false) x.now.disk → IsQueueClean (live new hs false) y.now.disk
     clean x y there t whole =
         let back : y ≡ with_backs gone x = t ∙ ap (λ (ds : List HeadedFile). with_backs ds x) gone_are in
-        let ready : Ready l hs false kept.files (with_backs gone x).now.disk = ready_after l hs false kind flushed gone l.files x (first_below needed l.files) (start x.now.disk there whole) in
+        let ready : Ready l hs false kept.older kept.files (with_backs gone x).now.disk = ready_after l hs false kind flushed gone l.older l.files x (first_below needed l.files) (start x.now.disk there whole) in
         subst (λ (m : LogState). IsQueueClean (live m hs false) y.now.disk) (sym new_is)
-        (subst (λ (c : Content). IsQueueClean (live kept hs false) c.now.disk) (sym back) (clean_after l hs false kind flushed kept.files (with_backs gone x).now.disk stopped ready))
+        (subst (λ (c : Content). IsQueueClean (live kept hs false) c.now.disk) (sym back) (clean_after l hs false kind flushed kept.older kept.files (with_backs gone x).now.disk stopped ready))
 
     -- the journal says the queue still, and its oldest file isn't dead
     pub told_clean : (v : Unit {0}) (a b : Option Content) → IfSome a (OnDisk (LogThere l)) → Tells (GivesAll (released needed l) (Ok v)) a b → Carries (IsQueueWhole (live l hs false)) (IsQueueClean (live new hs false)) a b
@@ -108,7 +108,7 @@ module _ (l : LogState) (hs : List Held) (sound : logs.IsSound l) (kind : l.open
   dead_passes : (r : Result (Unit {0}) LogError) (x y : Content) → LogThere l x.now.disk → GivesAll gone r x y → IsQuiet x.now.disk → IsQueueWhole (live l hs false) x.now.disk → Passes LeavesInOrder x y
   dead_passes (Ok v) x y there t quiet whole =
       subst (λ (c : Content). Passes LeavesInOrder x c) (sym t)
-      (Passes-of LeavesInOrder x (with_backs gone x) (all_leave l hs false kind flushed gone l.files x (first_below needed l.files) (start x.now.disk there whole) quiet))
+      (Passes-of LeavesInOrder x (with_backs gone x) (all_leave l hs false kind flushed gone l.older l.files x (first_below needed l.files) (start x.now.disk there whole) quiet))
   dead_passes (Err e) x y there (inl t) quiet whole = Passes-same LeavesInOrder x y t.1
   dead_passes (Err e) x y there (inr t) quiet whole = stopped_leave l hs false kind flushed gone t.0 x y (first_below needed l.files) t.2 (start x.now.disk there whole) quiet
 

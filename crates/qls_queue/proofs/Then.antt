@@ -1,5 +1,5 @@
 -- One call after another: the moments of both.
-use Rattle.std.proofs.Common.{◌≡◌, List, [], ◌∷◌, ◌++◌, Option, Some, None, refl, sym, ap, ◌∙◌, subst, append_assoc, append-nil}
+use Rattle.std.proofs.Common.{◌≡◌, List, [], ◌∷◌, ◌++◌, Option, Some, None, sym, ap, ◌∙◌, subst, append_assoc, append-nil}
 use Rattle.qls_site.specs.Content.{Moment, Content, Tells, moments_since}
 use Rattle.qls_meaning.specs.History.{History, FreeArea, AllUnmarked, last_of, now, next}
 use Rattle.qls_laws.proofs.HistoryLaws.{AllUnmarked-within}

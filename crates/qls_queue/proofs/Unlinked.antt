@@ -1,5 +1,5 @@
 -- The oldest file of a log goes out of use.
-use Rattle.std.proofs.Common.{◌≡◌, ℕ, ◌+◌, ◌<◌, Bool, true, false, cond, ◌==◌, List, [], ◌∷◌, map, take, Option, Some, None, IsTrue, refl, sym, ap, ◌∙◌, subst, arith}
+use Rattle.std.proofs.Common.{◌≡◌, ℕ, Bool, true, false, cond, ◌==◌, List, [], ◌∷◌, map, take, Option, Some, IsTrue, refl, sym, ap, ◌∙◌, subst}
 use Rattle.std.specs.List.{AllByRecursion}
 use Rattle.qls_site.specs.declared.site.Place.TheVariants.{Empty}
 use Rattle.qls_site.specs.Disk.{Disk, FileState, IsQuiet, file_of, full_file, full, bare, all_written, bytes_at, seen_bytes, changed, change_file}
@@ -8,18 +8,19 @@ use Rattle.qls_site.proofs.DiskLaws.{only_image, IsImage-bare}
 use Rattle.qls_filehdr.specs.declared.FileHeader.{FileHeader}
 use Rattle.qls_filehdr.specs.Header.{header_spelling}
 use Rattle.qls_filehdr.specs.Limits.{is_legal_header}
-use Rattle.qls_meaning.specs.Journals.{Headed, headed, in_use, is_in_use, is_of, journal}
+use Rattle.qls_meaning.specs.Journals.{headed, in_use, is_in_use, is_of, journal}
 use Rattle.qls_meaning.specs.Orderly.{journal_on, MayLeave, IsReturned}
 use Rattle.qls_pool.specs.Files.{HeadedFile, IsLinked, IsAtRest, LinkedThere, IdsDiffer, is_among}
 use Rattle.qls_pool.specs.Taking.{put_back}
-use Rattle.qls_pool.proofs.Disks.{eqb_is, eqb_own}
+use Rattle.qls_pool.proofs.Disks.{eqb_is}
 use Rattle.qls_pool.proofs.Steps.{all_map, all_weaken, all_found, differ_change, reads_header}
 use Rattle.qls_log.specs.declared.opening.Opening.{Opening}
-use Rattle.qls_log.specs.Logs.{LogState, IsSound, IsOfOpening, NumberedFrom, capacity_in}
+use Rattle.qls_log.specs.Logs.{LogState, IsSound, IsOfJournal, capacity_in}
 use Rattle.qls_log.specs.Standing.{AreThoseFiles, LogThere, RestsBut, files_on}
 use Rattle.qls_log.specs.Writing.{AreInUse}
 use Rattle.qls_log.specs.Leaving.{LeavesFile, LeavesInOrder}
 use Rattle.qls_log.proofs.OwnWrites.{own_one}
+use Rattle.qls_log.proofs.Returns.{first_above, differ_by, linked_found}
 use Rattle.qls_log.proofs.Splits.{IsOrAbove, files-unlinked, split}
 use Rattle.qls_log.proofs.Takes.{header_seen, other_changed}
 
@@ -27,30 +28,6 @@ no_both : (b : Bool) → b ≡ true → b ≡ false → ⊥
 no_both b x y = cc
 
 -- ---- the journal without its oldest file
-
-those_above : (id cap k n last : ℕ) (hs : List HeadedFile) (fs : List Headed) → n < k → NumberedFrom k hs last → AreThoseFiles cap hs fs → AllByRecursion (IsOrAbove id n) fs
-those_above id cap k n last [] [] l m t = tt
-those_above id cap k n last [] (f ∷ fs) l m t = absurd t
-those_above id cap k n last (h ∷ hs) [] l m t = absurd t
-those_above id cap k n last (h ∷ hs) (f ∷ fs) l m t =
-    let number : f.header.number ≡ k = ap (λ (x : FileHeader). x.number) t.0.header ∙ m.0 in
-    (λ apart. omega (arith, number, l), those_above id cap (k + 1) n last hs fs (omega (arith, l)) m.1 t.1)
-
-first_above : (cap n last : ℕ) (h : HeadedFile) (hs : List HeadedFile) (fs : List Headed) → NumberedFrom n (h ∷ hs) last → AreThoseFiles cap (h ∷ hs) fs → AllByRecursion (IsOrAbove h.id n) fs
-first_above cap n last h hs [] m t = absurd t
-first_above cap n last h hs (f ∷ fs) m t =
-    (λ apart. absurd (no_both (f.id == h.id) (ap (λ i. i == h.id) t.0.id ∙ eqb_own h.id) apart), those_above h.id cap (n + 1) n last hs fs (omega arith) m.1 t.1)
-
-differ_by : (m n : ℕ) → ((m ≡ n) → ⊥) → (m == n) ≡ false
-differ_by m n h = from (m == n) refl
-  where
-    from : (b : Bool) → (m == n) ≡ b → (m == n) ≡ false
-    from true e = absurd (h (eqb_is m n e))
-    from false e = e
-
-linked_found : (h : HeadedFile) (o : Option FileState) → IsLinked h o → (f : FileState) × (o ≡ Some f) × IsLinked h (Some f)
-linked_found h None k = absurd k
-linked_found h (Some f) k = (f, refl, k)
 
 abbrev pub homed : HeadedFile → FileState → FileState
 homed h f = record f { place = Empty h.header.part h.header.kib }
@@ -75,7 +52,7 @@ module _ (l : LogState) (h : HeadedFile) (hs : List HeadedFile) (d : Disk) (soun
   old_found = found.1
 
   own : is_of o.kind o.name (headed (full_file old_file)) ≡ true
-  own = (own_one o h d (Some old_file) found.1 found.2 there.there.headers.0 sound.own.0 sound.legal.0).1
+  own = (own_one o h d (Some old_file) found.1 found.2 there.there.headers.0 sound.all.0 sound.legal.0).1
 
   pub old_number : (headed (full_file old_file)).header.number ≡ h.header.number
   old_number =
@@ -132,7 +109,7 @@ stays_file m f e = subst (λ (p : Option FileState). LeavesFile m p f) (sym e) (
 pub leaves_none : (m : Moment) → IdsDiffer m.disk → LeavesInOrder m m
 leaves_none m differ = all_weaken (λ f. file_of f.id m.disk ≡ Some f) (λ f. LeavesFile m (file_of f.id m.disk) f) (stays_file m) m.disk (all_found m.disk differ)
 
-module _ (o : Opening) (h : HeadedFile) (m : Moment) (f : FileState) (quiet : IsQuiet m.disk) (differ : IdsDiffer m.disk) (is : file_of h.id m.disk ≡ Some f) (rests : IsAtRest h (Some f)) (legal : IsTrue (is_legal_header h.header)) (own : IsOfOpening o h)
+module _ (o : Opening) (h : HeadedFile) (m : Moment) (f : FileState) (quiet : IsQuiet m.disk) (differ : IdsDiffer m.disk) (is : file_of h.id m.disk ≡ Some f) (rests : IsAtRest h (Some f)) (legal : IsTrue (is_legal_header h.header)) (own : IsOfJournal o h)
     (may : MayLeave (journal_on m.disk o.kind o.name) (headed (full_file f))) where
   may_bare : MayLeave (journal (map headed (in_use (bare m.disk))) h.header.kind h.header.name) (headed (record { id = f.id; place = f.place; bytes = f.stable }))
   may_bare =

@@ -74,7 +74,12 @@ pub sound_flushed : (l new : LogState) → new ≡ record l { unsynced = [] } �
 sound_flushed l new e s =
     subst IsSound (sym e) (record {
       opening = s.opening;
+      all = s.all;
+      older = s.older;
+      olds = s.olds;
       own = s.own;
+      full = s.full;
+      next = s.next;
       legal = s.legal;
       some = s.some;
       few = s.few;

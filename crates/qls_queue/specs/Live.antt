@@ -61,10 +61,6 @@ pub record IsQueueRead (q : LiveState) (d : Disk) : Type 0 where
   pub queue : queue_of (journal_on d q.log.opening.kind q.log.opening.name) ≡ q.queue
   pub held : held_after_all reads [] ≡ q.held
 
--- where every file that came into use was unmarked, the journal says the new queue
-abbrev pub BeginsQueue : LiveState → Content → Content → Type 0
-BeginsQueue q a b = AllUnmarked a.now (moments_since a b) → IsQueueRead q b.now.disk
-
 -- where every file that came into use was unmarked, the journal says the queue after the call if it did so before; moments are only added
 pub record QueueReadsOn (old new : LiveState) (a b : Content) : Type 0 where
   pub adds : b.moments ≡ a.moments ++ moments_since a b

@@ -1,6 +1,6 @@
 -- The moments of a call on a queue, and what it drew.
 use Rattle.std.specs.Prelude.{◌≡◌, Bool, true, false, List, Result, Ok, Err, IfOk}
-use Rattle.qls_site.specs.Disk.{Disk, IsQuiet}
+use Rattle.qls_site.specs.Disk.{IsQuiet}
 use Rattle.qls_site.specs.Content.{Moment, Content, moments_since}
 use Rattle.qls_meaning.specs.History.{History, FreeArea, AllUnmarked, now}
 use Rattle.qls_pool.specs.Moments.{Chain, Passes, Arrives}

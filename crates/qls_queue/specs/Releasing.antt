@@ -1,5 +1,5 @@
 -- Files that nothing holds any more go back, and what holds of the queue's journal then.
-use Rattle.std.specs.Prelude.{◌≡◌, ℕ, false, List, ◌++◌, drop, length, Option, Some, None, Result, Ok, Err}
+use Rattle.std.specs.Prelude.{◌≡◌, ℕ, false, List, ◌++◌, length, Option, Some, None, Result, Ok, Err}
 use Rattle.qls_record.specs.Record.{Record}
 use Rattle.qls_site.specs.Disk.{Disk}
 use Rattle.qls_site.specs.Content.{Content, Tells, moments_since}
@@ -10,6 +10,7 @@ use Rattle.qls_meaning.specs.Dead.{has_dead_oldest}
 use Rattle.qls_meaning.specs.History.{AllUnmarked}
 use Rattle.qls_meaning.specs.Orderly.{journal_on}
 use Rattle.qls_log.specs.declared.fault.LogError.{LogError}
+use Rattle.qls_log.specs.Logs.{without_first}
 use Rattle.qls_log.specs.Appending.{LeavesOthers}
 use Rattle.qls_log.specs.Returning.{GivesAll, released}
 use Rattle.qls_log.specs.Soundness.{IsUndamaged}
@@ -34,7 +35,7 @@ dead_files q = released (first_needed q) q.log
 
 -- the same queue without them
 abbrev pub after_release : LiveState → LiveState
-after_release q = live (record q.log { files = drop (length (dead_files q)) q.log.files }) q.held q.ended
+after_release q = live (without_first (length (dead_files q)) q.log) q.held q.ended
 
 -- each went back by one relocation, oldest first, and nothing was written
 abbrev pub GivesDead : LiveState → Result (Unit {0}) QueueError → Content → Content → Type 0

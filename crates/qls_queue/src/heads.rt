@@ -1,14 +1,16 @@
-// The heads of the records that a queue writes, and which messages are taken.
+// The heads of the records that a queue writes, which messages are taken, and records that were read.
 ghost use Rattle.std.specs.Prelude.{◌≡◌, ◌≤◌, ◌<◌, ◌^◌, false, length, option_map, option_copied, IfOk, IsTrue};
 ghost use Rattle.qls_record.specs.Head.{is_legal_head};
-ghost use Rattle.qls_replay.specs.Held.{message_of, messages_of};
+ghost use Rattle.qls_meaning.specs.Reading.{read_of};
+ghost use Rattle.qls_replay.specs.Held.{message_of, messages_of, held_after, IsAbove};
 ghost use Rattle.qls_queue.specs.Answers.{take_answer, BodyAnswer};
 ghost use Rattle.qls_queue.specs.Records.{xid_of};
 
 use crate::fault::QueueError;
 use qls_enqmap::{EnqMap, Held};
 use qls_model::{Bytes, Message, NoMemory, Seq, Status, Xid};
-use qls_record::{Head, Kind};
+use qls_record::{Got, Head, Kind};
+use qls_replay::QueueReplay;
 use std::alloc::Global;
 
 /// The xid as a record has it: empty where there is none.
@@ -102,4 +104,17 @@ pub(crate) fn copy_messages(alloc: Global, held: &EnqMap) -> Result<Seq<Message>
         messages.push(message_copy(one)?)?;
     }
     Ok(messages)
+}
+
+/// One more record of a journal that was read.
+pub(crate) fn apply_read(tables: &mut QueueReplay, got: &Got) -> Result<(), NoMemory>
+    requires above { IsAbove got.now.head.kind got.now.head.rid tables.old.held }
+    ensures held { IfOk result (λ _. tables.new.held ≡ held_after got.now.head.kind (read_of got.now) tables.old.held) }
+    ensures xid { IfOk result (λ _. length got.now.xid ≤ 128) }
+{
+    // never so: an xid keeps within its limit, but doesn't tell that it does
+    if got.xid.as_slice().len() > 128 {
+        return Err(NoMemory);
+    }
+    tables.apply(got)
 }

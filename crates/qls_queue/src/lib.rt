@@ -17,4 +17,6 @@ pub use live::LiveQueue;
 #[cfg(test)]
 mod back_tests;
 #[cfg(test)]
+mod open_tests;
+#[cfg(test)]
 mod tests;

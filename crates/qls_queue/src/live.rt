@@ -1,8 +1,8 @@
 // A queue held live.
-ghost use Rattle.std.specs.Prelude.{◌≡◌, ◌⊎◌, ℕ, ◌<◌, ◌≤◌, ◌+◌, ◌-◌, ◌^◌, List, [], ◌∷◌, Option, Some, None, Ok, Err, IfOk, IfErr, IfSome, IsTrue, length, slice_get, option_map, false, true};
+ghost use Rattle.std.specs.Prelude.{◌≡◌, ◌⊎◌, ℕ, ◌<◌, ◌≤◌, ◌+◌, ◌-◌, ◌^◌, not, List, [], ◌∷◌, map, Option, Some, None, Ok, Err, IfOk, IfErr, IfSome, IsTrue, length, slice_get, option_map, false, true};
 ghost use Rattle.qls_site.specs.Content.{Tells};
-ghost use Rattle.qls_site.specs.Disk.{IsQuiet};
-ghost use Rattle.qls_record.specs.Record.{rid_given};
+ghost use Rattle.qls_site.specs.Disk.{Disk, IsQuiet};
+ghost use Rattle.qls_record.specs.Record.{rid_given, is_filler};
 ghost use Rattle.qls_record.specs.Head.{is_legal_head, record_with};
 ghost use Rattle.qls_pool.specs.Pools.{IsSpent};
 ghost use Rattle.qls_pool.specs.Files.{IsPoolOf, IsWholePool, OnDisk, Carries};
@@ -10,7 +10,10 @@ ghost use Rattle.qls_pool.specs.Discipline.{Orderly};
 ghost use Rattle.qls_pool.specs.Moments.{Passes};
 ghost use Rattle.qls_pool.specs.Serials.{DrawsTaken};
 ghost use Rattle.qls_meaning.specs.Replay.{after_record};
-ghost use Rattle.std.specs.List.{AllByRecursion};
+ghost use Rattle.qls_meaning.specs.Reading.{Read, read_of};
+ghost use Rattle.qls_replay.specs.Held.{held_after_all};
+ghost use Rattle.qls_reading.specs.ReadLogs.{AreGiven, rid_behind};
+ghost use Rattle.std.specs.List.{AllByRecursion, filter};
 ghost use Rattle.std.specs.List.Sorted.{IsStrictlySortedBy};
 ghost use Rattle.std.specs.Ordering.{nat_cmp};
 ghost use Rattle.std.specs.Cmp.Lexicographic.{slice_cmp};
@@ -21,29 +24,31 @@ ghost use Rattle.qls_queue.specs.Answers.{take_answer, BodyAnswer, body_at, numb
 ghost use Rattle.qls_blocks.specs.Plans.{plan_of};
 ghost use Rattle.qls_blocks.specs.Batching.{length_of, block_length};
 ghost use Rattle.qls_log.specs.Logs.{IsLegalOpening, capacity_in, IsSound as IsSoundLog};
+ghost use Rattle.qls_log.specs.Reads.{IsRead};
+ghost use Rattle.qls_log.specs.Soundness.{IsUndamaged};
 ghost use Rattle.qls_log.specs.Leaving.{NoneLeaves};
 ghost use Rattle.qls_log.specs.Steps.{IsLogStep, MeetsEndWith, KeepsRoom};
 ghost use Rattle.qls_log.specs.Faults.{Counts};
 ghost use Rattle.qls_log.specs.Taking.{TakesFiles, DrawsEach, MeetsEnd};
 ghost use Rattle.qls_log.specs.Standing.{files_on};
 ghost use Rattle.qls_log.specs.Appending.{IsNew, LeavesOthers, ReadsInImages};
-ghost use Rattle.qls_queue.specs.Live.{IsSound, QueueThere};
+ghost use Rattle.qls_queue.specs.Live.{live, IsSound, QueueThere};
 ghost use Rattle.qls_queue.specs.Moments.{is_exact, GoesBy, LeavesDead, BeginsWritten, StaysWritten};
-ghost use Rattle.qls_queue.specs.Releasing.{HasWrittenAndReleased, BeginsClean, BecomesClean, StaysWhole};
+ghost use Rattle.qls_queue.specs.Releasing.{HasWrittenAndReleased, IsQueueWhole, BeginsClean, BecomesClean, StaysWhole};
 ghost use Rattle.qls_queue.specs.Faults.{is_end, is_fault, QueueCauses};
 ghost use Rattle.qls_queue.specs.Writing.{HasWritten, syncs_of};
 ghost use Rattle.qls_queue.specs.Records.{opening_of, enqueue_of, dequeue_of, end_records, ended_by, IsXid};
 
 use crate::ends::{batch_of_ends, end_all};
 use crate::fault::QueueError;
-use crate::heads::{body_copy, copy_messages, dequeue, enqueue, may_take, xid_or_none};
+use crate::heads::{apply_read, body_copy, copy_messages, dequeue, enqueue, may_take, xid_or_none};
 use crate::write::{write_batch, write_one};
 use qls_decide::End;
 use qls_filehdr::JournalKind;
 use qls_log::Log;
 use qls_model::{Bytes, Message, Name, NoMemory, PoolId, Seq, Status, Xid};
 use qls_pool::Pool;
-use qls_record::Head;
+use qls_record::{Got, Head};
 use qls_replay::QueueReplay;
 use qls_site::{Serials, Site};
 use std::alloc::Global;
@@ -126,6 +131,35 @@ impl LiveQueue {
             alloc,
             log,
             tables: QueueReplay::new(alloc),
+            ended: false,
+        })
+    }
+
+    /// Opens a queue over its journal, which was read whole: these are its records without the fillers, oldest first. What
+    /// they leave are its messages, each in the files of its record, and the log's rid is its last number. Where the log
+    /// reads these records on a disk and breaks no damage rule there, the journal says the queue.
+    ///
+    /// The log isn't ended, is a queue's and has nothing pending; the records' rids follow from each other up to the log's.
+    /// Only Memory is answered.
+    pub fn open(alloc: Global, log: Log, reads: &Seq<Got>) -> Result<LiveQueue, QueueError>
+        requires unended { log.ended ≡ false }
+        requires flushed { log.unsynced ≡ [] }
+        requires kind { log.opening.kind ≡ JournalKind.Queue }
+        requires given { (first : ℕ) × AreGiven first reads.now × (log.rid ≡ rid_behind first reads.now) }
+        ensures queue { IfOk result (λ q. q ≡ live log (held_after_all (map read_of reads.now) []) false) }
+        ensures sound { IfOk result IsSound }
+        ensures legal { IfOk result (λ q. IsSoundLog q.log) }
+        ensures only { IfErr result (λ e. e ≡ QueueError.Memory) }
+        ensures whole { IfOk result (λ q. (d : Disk) → (kept : List Read) → IsRead log kept d → IsUndamaged log d → filter (λ r. not (is_filler r.what.kind)) kept ≡ map read_of reads.now → IsQueueWhole q d) }
+    {
+        let mut tables = QueueReplay::new(alloc);
+        for got in reads.as_slice() {
+            apply_read(&mut tables, got)?;
+        }
+        Ok(LiveQueue {
+            alloc,
+            log,
+            tables,
             ended: false,
         })
     }
@@ -392,7 +426,8 @@ impl LiveQueue {
     }
 
     /// Ends transactions, in order: each as a commit or an abort of its xid does. It appends one batch with a record for
-    /// each end, flushes it, and then ends them in the queue. An end whose xid isn't pending changes nothing.
+    /// each end, flushes it, and then ends them in the queue. An end whose xid isn't pending changes nothing. Files that
+    /// are dead then go back to their pool, oldest first.
     ///
     /// There is at least one end, and each xid has 1 to 128 bytes. The queue isn't ended; where told, the site has its
     /// journal as its last call left it, and the pool is the site's, with no file out. After an error the queue is ended.

@@ -16,7 +16,7 @@ use std::process::Abort;
 use std::test::Fail;
 
 /// The pool of partition 1 whose files have 8 KiB of data, two blocks.
-const HOME: PoolId = PoolId { part: 1, kib: 8 };
+pub(crate) const HOME: PoolId = PoolId { part: 1, kib: 8 };
 
 /// The pools of a site without files.
 pub(crate) fn open_pools<S: Site>(alloc: Global, site: &mut S) -> Result<Pool, Fail>
@@ -47,7 +47,7 @@ fn make<S: Site, N: Serials>(
 }
 
 /// The xid of one letter, and none where that is a dash.
-fn by(letter: u8) -> Option<Xid>
+pub(crate) fn by(letter: u8) -> Option<Xid>
     ensures xid { IfSome result IsXid }
 {
     if letter == b'-' {
@@ -165,7 +165,11 @@ fn letter(status: &Status) -> u8 {
 }
 
 /// The queue has these messages, by number, and no other.
-fn check_messages(rt: &impl Abort, queue: &LiveQueue, wanted: &[(u64, u8)]) -> Result<(), Fail>
+pub(crate) fn check_messages(
+    rt: &impl Abort,
+    queue: &LiveQueue,
+    wanted: &[(u64, u8)],
+) -> Result<(), Fail>
     requires open { queue.now.ended ≡ false }
 {
     for (at, (number, status)) in wanted.iter().enumerate() {
@@ -177,7 +181,7 @@ fn check_messages(rt: &impl Abort, queue: &LiveQueue, wanted: &[(u64, u8)]) -> R
 }
 
 /// These xids of one letter are pending, and no other.
-fn check_pending(rt: &impl Abort, queue: &LiveQueue, wanted: &[u8]) -> Result<(), Fail>
+pub(crate) fn check_pending(rt: &impl Abort, queue: &LiveQueue, wanted: &[u8]) -> Result<(), Fail>
     requires open { queue.now.ended ≡ false }
 {
     let pending = queue.pending()?;

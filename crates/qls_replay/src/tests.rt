@@ -11,19 +11,19 @@ use std::alloc::Global;
 use std::process::Abort;
 use std::test::Fail;
 
-// Records, one in each word: `e` an enqueue, `d` a dequeue, `E` and `D` flagged ones, `c` a commit, `a` an abort, `f` a
+// Records, one in each word: `e` an enqueue, `d` a dequeue, `g` and `t` flagged ones, `c` a commit, `a` an abort, `f` a
 // filler; then the target in two digits, and the transaction. A record's id is its place, counted from 0.
 const QUEUE: &str =
-    "f00 e00 e00x e00 d01 d01 d02 d02y d03y d03 d03x d99 d99x c00z a00z e00y E00 D16 e00 d18x e00z d20 \
-    a00z c00x c00x e00w d02w e00 D27v a00y";
+    "f00 e00 e00x e00 d01 d01 d02 d02y d03y d03 d03x d99 d99x c00z a00z e00y g00 t16 e00 d18x e00z d20 \
+    a00z c00x c00x e00w d02w e00 t27v a00y";
 
 const LIST: &str =
-    "f00 e00a E00b e00 d01b D01a d01a d02b c00z a00a e00c E00c d10c e00d c00d d13d e00A";
+    "f00 e00a g00b e00 d01b t01a d01a d02b c00z a00a e00c g00c d10c e00d c00d d13d e00A";
 
 fn kind(letter: u8) -> Kind {
     match letter {
-        b'e' | b'E' => Kind::Enqueue,
-        b'd' | b'D' => Kind::Dequeue,
+        b'e' | b'g' => Kind::Enqueue,
+        b'd' | b't' => Kind::Dequeue,
         b'c' => Kind::Commit,
         b'a' => Kind::Abort,
         _ => Kind::Filler,
@@ -46,7 +46,7 @@ fn got(alloc: Global, word: &[u8], rid: u64) -> Result<Got, NoMemory>
     Ok(Got {
         head: Head {
             kind: kind(letter),
-            flagged: letter.is_ascii_uppercase(),
+            flagged: letter == b'g' || letter == b't',
             rid,
             target: digit(tens) * 10 + digit(ones),
             xid_size: 0,

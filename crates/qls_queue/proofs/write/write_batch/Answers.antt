@@ -1,4 +1,4 @@
-use Rattle.std.proofs.Common.{◌≡◌, ℕ, ◌+◌, true, [], length, Ok, Err, IfOk, refl, ap, subst, rules}
+use Rattle.std.proofs.Common.{◌≡◌, ℕ, ◌+◌, true, [], length, Ok, Err, refl, ap, subst, rules}
 use Rattle.qls_site.specs.Content.{Tells}
 use Rattle.qls_site.specs.Disk.{IsQuiet}
 use Rattle.qls_pool.specs.Files.{IsPoolOf}
@@ -12,7 +12,7 @@ use Rattle.qls_log.specs.Reads.{ReadsOn}
 use Rattle.qls_log.proofs.Chains.{whole_then}
 use Rattle.qls_log.proofs.AppendSteps.{told_whole_after}
 use Rattle.qls_log.proofs.Sound.{told_put_undamaged}
-use Rattle.qls_log.proofs.Going.{told_on, told_handed, told_passes, draws_on, draws_handed}
+use Rattle.qls_log.proofs.Going.{told_on, told_handed, draws_on, draws_handed}
 use Rattle.qls_log.specs.Leaving.{NoneLeaves}
 use Rattle.qls_log.specs.Steps.{IsLogStep, GoesBy, is_exact}
 use Rattle.qls_log.specs.Unwritten.{IsWrittenTo}

@@ -1,4 +1,4 @@
-use Rattle.std.proofs.Common.{◌≡◌, ◌⊎◌, ◌∷◌, [], Ok, Err, IfOk, IfSome, refl, ap, ◌∙◌, subst, rules}
+use Rattle.std.proofs.Common.{◌≡◌, Err, IfOk, IfSome, refl, ap, ◌∙◌, subst, rules}
 use Rattle.qls_site.specs.Disk.{IsQuiet}
 use Rattle.qls_site.specs.Content.{Tells}
 use Rattle.qls_pool.specs.Files.{OnDisk, IsWholePool, Carries}

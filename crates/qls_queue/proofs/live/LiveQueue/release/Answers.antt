@@ -3,7 +3,7 @@ use Rattle.qls_site.specs.Content.{Tells}
 use Rattle.qls_pool.specs.Files.{OnDisk, Carries}
 use Rattle.qls_enqmap.specs.declared.Held.{Held}
 use Rattle.qls_enqmap.specs.Records.{least_file}
-use Rattle.qls_log.specs.Logs.{LogState}
+use Rattle.qls_log.specs.Logs.{LogState, without_first}
 use Rattle.qls_log.specs.Standing.{LogThere}
 use Rattle.qls_log.specs.Returning.{GivesAll, released}
 use Rattle.qls_queue.specs.Live.{LiveState, live, IsSound}
@@ -33,7 +33,7 @@ invariant_of-self-2 g c = λ _.
     let unended : c.self.inside.ended ≡ false = ap (λ (q : LiveState). q.ended) c.self.view_is ∙ c.requires.unended in
     let s : IsSound (live l hs c.self.inside.ended) = c.self.invariant unended in
     let needed : c.first_needed-number.result ≡ file_or l.newest (least_file hs) = needed_is _ _ l.newest _ hs c.first_needed-number.ensures.exact c.newest.ensures.exact c.held.ensures.same in
-    let is : c.release_before.new.self ≡ record l { files = drop (length (released (file_or l.newest (least_file hs)) l)) l.files } =
+    let is : c.release_before.new.self ≡ without_first (length (released (file_or l.newest (least_file hs)) l)) l =
     log_is l c.release_before.new.self c.first_needed-number.result _ needed c.in_ok-release_before.ensures.log in
     queue_sound l hs c.in_ok-release_before.ensures.legal s.kind s.flushed c.release_before.new.self is c.self.inside.ended s
 
@@ -44,7 +44,7 @@ returns-clause-sound g c =
     let unended : c.self.inside.ended ≡ false = ap (λ (q : LiveState). q.ended) c.self.view_is ∙ c.requires.unended in
     let s : IsSound (live l hs c.self.inside.ended) = c.self.invariant unended in
     let needed : c.first_needed-number.result ≡ file_or l.newest (least_file hs) = needed_is _ _ l.newest _ hs c.first_needed-number.ensures.exact c.newest.ensures.exact c.held.ensures.same in
-    let is : c.release_before.new.self ≡ record l { files = drop (length (released (file_or l.newest (least_file hs)) l)) l.files } =
+    let is : c.release_before.new.self ≡ without_first (length (released (file_or l.newest (least_file hs)) l)) l =
     log_is l c.release_before.new.self c.first_needed-number.result _ needed c.in_ok-release_before.ensures.log in
     queue_sound l hs c.in_ok-release_before.ensures.legal s.kind s.flushed c.release_before.new.self is c.self.inside.ended s
 
@@ -55,7 +55,7 @@ returns-clause-log g c =
     let unended : c.self.inside.ended ≡ false = ap (λ (q : LiveState). q.ended) c.self.view_is ∙ c.requires.unended in
     let s : IsSound (live l hs c.self.inside.ended) = c.self.invariant unended in
     let needed : c.first_needed-number.result ≡ file_or l.newest (least_file hs) = needed_is _ _ l.newest _ hs c.first_needed-number.ensures.exact c.newest.ensures.exact c.held.ensures.same in
-    let is : c.release_before.new.self ≡ record l { files = drop (length (released (file_or l.newest (least_file hs)) l)) l.files } =
+    let is : c.release_before.new.self ≡ without_first (length (released (file_or l.newest (least_file hs)) l)) l =
     log_is l c.release_before.new.self c.first_needed-number.result _ needed c.in_ok-release_before.ensures.log in
     released_sound l hs c.in_ok-release_before.ensures.legal s.kind s.flushed c.release_before.new.self is
 
@@ -66,7 +66,7 @@ returns-clause-one g c =
     let unended : c.self.inside.ended ≡ false = ap (λ (q : LiveState). q.ended) c.self.view_is ∙ c.requires.unended in
     let s : IsSound (live l hs c.self.inside.ended) = c.self.invariant unended in
     let needed : c.first_needed-number.result ≡ file_or l.newest (least_file hs) = needed_is _ _ l.newest _ hs c.first_needed-number.ensures.exact c.newest.ensures.exact c.held.ensures.same in
-    let is : c.release_before.new.self ≡ record l { files = drop (length (released (file_or l.newest (least_file hs)) l)) l.files } =
+    let is : c.release_before.new.self ≡ without_first (length (released (file_or l.newest (least_file hs)) l)) l =
     log_is l c.release_before.new.self c.first_needed-number.result _ needed c.in_ok-release_before.ensures.log in
     released_one l hs c.in_ok-release_before.ensures.legal s.kind s.flushed c.release_before.new.self is
 
@@ -79,7 +79,7 @@ returns-clause-clean g c =
     let needed : c.first_needed-number.result ≡ file_or l.newest (least_file hs) = needed_is _ _ l.newest _ hs c.first_needed-number.ensures.exact c.newest.ensures.exact c.held.ensures.same in
     let old : live l hs false ≡ c.args.self.now = ap (live l hs) (sym unended) ∙ c.self.view_is in
     let there : IfSome (g.S.Site.told c.args.site.now) (OnDisk (LogThere l)) = subst (λ (q : LiveState). IfSome (g.S.Site.told c.args.site.now) (OnDisk (LogThere q.log))) (sym c.self.view_is) c.requires.there in
-    let is : c.release_before.new.self ≡ record l { files = drop (length (released (file_or l.newest (least_file hs)) l)) l.files } =
+    let is : c.release_before.new.self ≡ without_first (length (released (file_or l.newest (least_file hs)) l)) l =
     log_is l c.release_before.new.self c.first_needed-number.result _ needed c.in_ok-release_before.ensures.log in
     let back : Tells (GivesAll (released (file_or l.newest (least_file hs)) l) (Ok c.in_ok-release_before.field-0)) (g.S.Site.told c.args.site.now) (g.S.Site.told c.release_before.new.site) =
     subst (λ n. Tells (GivesAll (released n l) (Ok c.in_ok-release_before.field-0)) (g.S.Site.told c.args.site.now) (g.S.Site.told c.release_before.new.site)) needed c.in_ok-release_before.ensures.told in

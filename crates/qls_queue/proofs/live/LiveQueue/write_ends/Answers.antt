@@ -1,4 +1,4 @@
-use Rattle.std.proofs.Common.{◌≡◌, List, false, Ok, Err, IfOk, IfSome, refl, sym, ap, subst, ◌∙◌, rules}
+use Rattle.std.proofs.Common.{◌≡◌, List, false, Err, IfOk, IfSome, refl, sym, ap, subst, ◌∙◌, rules}
 use Rattle.qls_record.specs.Record.{Record}
 use Rattle.qls_site.specs.Content.{Tells}
 use Rattle.qls_decide.specs.declared.End.{End}

@@ -1,4 +1,4 @@
-use Rattle.std.proofs.Common.{◌≡◌, ℕ, ◌≤◌, length, IsTrue, List, [], ◌∷◌, false, Ok, Err, IfOk, IfSome, refl, sym, ap, subst, ◌∙◌, rules}
+use Rattle.std.proofs.Common.{◌≡◌, ℕ, ◌≤◌, length, IsTrue, List, [], ◌∷◌, false, Err, IfOk, IfSome, refl, sym, ap, subst, ◌∙◌, rules}
 use Rattle.qls_record.specs.declared.Head.{Head}
 use Rattle.qls_record.specs.Record.{Record, rid_given}
 use Rattle.qls_record.specs.Head.{record_with, is_legal_head}
