@@ -1,0 +1,11 @@
+pub mod Lists
+pub mod Table
+pub mod Places
+pub mod Records
+pub mod Moments
+pub mod Ends
+pub mod Writing
+pub mod Ending
+pub mod Opening
+pub mod Saying
+pub mod Releasing
