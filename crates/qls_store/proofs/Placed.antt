@@ -1,237 +1,169 @@
--- A command on a queue that stands at a place: what its call did, in the words of the store.
-use Rattle.std.proofs.Common.{◌≡◌, inl, inr, ℕ, zero, suc, Bool, true, false, cond, ◌-◌, ◌<◌, ◌^◌, ◌==◌, List, [], ◌∷◌, ◌++◌, length, get_or, Option, Some, None, IfSome, Result, Ok, Err, IsErr, IsTrue, refl, sym, ap, subst, ◌∙◌, arith}
-use Rattle.std.proofs.Math.ListN.{set}
-use Rattle.std.specs.List.{AllByRecursion, slice_get, filter}
-use Rattle.std.proofs.lemmas.Bool.{eqb-true}
-use Rattle.std.proofs.lemmas.Option.{get_or_from_slice_get}
-use Rattle.qls_model.specs.Limits.{is_queue_name}
-use Rattle.qls_model.specs.Machine.{queue_named, step}
-use Rattle.qls_model.specs.declared.machine.Command.{Command}
-use Rattle.qls_model.specs.declared.machine.Command.TheVariants as command
-use Rattle.qls_model.specs.declared.machine.Message.{Message}
-use Rattle.qls_model.specs.declared.machine.PoolId.{PoolId}
-use Rattle.qls_model.specs.declared.machine.Refusal.TheVariants as refusal
-use Rattle.qls_model.specs.declared.machine.Reply.{Reply}
-use Rattle.qls_model.specs.declared.machine.Reply.TheVariants.{Refused}
-use Rattle.qls_model.specs.declared.machine.Status.TheVariants.{Ready}
-use Rattle.qls_record.specs.Record.{Record}
-use Rattle.qls_site.specs.Disk.{Disk}
-use Rattle.qls_site.specs.Content.{Moment, Content, Tells}
-use Rattle.qls_blocks.specs.Batching.{length_of, block_length}
-use Rattle.qls_pool.specs.Pools.{PoolState}
-use Rattle.qls_pool.specs.Files.{OnDisk}
-use Rattle.qls_pool.specs.Moments.{EndsIn, Passes, Arrives}
-use Rattle.qls_log.specs.Leaving.{NoneLeaves}
-use Rattle.qls_log.specs.Logs.{IsSound as IsSoundLog}
-use Rattle.qls_log.specs.Steps.{IsLogStep, KeepsRoom, MeetsEndWith}
-use Rattle.qls_log.specs.Taking.{MeetsEnd}
-use Rattle.qls_queue.specs.Faults.{is_fault}
-use Rattle.qls_queue.specs.Live.{LiveState, IsSound, QueueThere}
-use Rattle.qls_queue.specs.Moments.{GoesBy}
-use Rattle.qls_queue.specs.Releasing.{IsQueueClean}
-use Rattle.qls_queue.specs.declared.fault.QueueError.{QueueError}
-use Rattle.qls_queue.specs.declared.fault.QueueError.TheVariants as queue
-use Rattle.qls_store.specs.declared.cause.Cause.{Cause}
-use Rattle.qls_store.specs.declared.cause.Cause.TheVariants as cause
-use Rattle.qls_store.specs.Ends.{MeetsItsEnd, StopsAtEnd, written_to, record_of, record_meets_end}
-use Rattle.qls_store.specs.Homes.{is_accepted}
-use Rattle.qls_store.specs.Moments.{StaysWritten}
-use Rattle.qls_store.specs.Places.{StandsAt}
-use Rattle.qls_store.specs.Refusals.{by_error}
-use Rattle.qls_store.specs.Stores.{StoreState, state_of, queue_held, IsKept, IsStore, Fits, IsClean}
-use Rattle.qls_store.specs.Steps.{RunsCommand}
-use Rattle.qls_store.proofs.Ending.{HasItsRoom, fresh_of, record_had, record_ends}
-use Rattle.qls_store.proofs.Machines.{named_by}
-use Rattle.qls_store.proofs.Names.{all_at}
-use Rattle.qls_store.proofs.Others.{store_arrival}
-use Rattle.qls_store.proofs.Resting.{told_none, writes_none}
-use Rattle.qls_store.proofs.Writing.{NextQueue}
+-- A transaction that stands at a place of the table, or would: what a write there makes of the table.
+use Rattle.std.proofs.Common.{◌≡◌, ℕ, zero, suc, ◌<◌, true, false, not, cond, List, [], ◌∷◌, ◌++◌, map, length, take, drop, get_or, set, Some, None, option_map, refl, ap, sym, subst, ◌∙◌}
+use Rattle.std.specs.List.{AllByRecursion, slice_get, filter, insert, remove}
+use Rattle.qls_model.specs.Bytes.{same, comes_before}
+use Rattle.qls_model.specs.Machine.{is_prepared}
+use Rattle.qls_model.proofs.XidKeys.{same_self}
+use Rattle.qls_store.specs.Stores.{TransactionState, XidsRise}
+use Rattle.qls_store.specs.Table.{Rises, StandsAt, WouldStandAt, named, change, phase_in, placed, with_name, without, prepared_xids}
+use Rattle.qls_store.proofs.Keys.{Before, AllBefore, AllBehind, Lacks, lacks_behind, lacks_between, before_differs, not_before, behind_differs, all_at, found_at, none_at, at_is, at_within}
+use Rattle.std.proofs.lemmas.Option.{slice_get_read}
 
--- ---- the queue that a search found
+abbrev pub xid_of : TransactionState → List ℕ
+xid_of t = t.xid
 
-pub record Placed (s : StoreState) (name : List ℕ) (at : ℕ) (q : LiveState) : Type 0 where
-  pub store : IsStore s
-  pub place : slice_get s.queues at ≡ Some q
-  pub held : queue_held q.queue.name s.queues ≡ Some q
-  pub named : q.queue.name ≡ name
+abbrev pub name_of : List ℕ → List ℕ
+name_of n = n
 
-pub placed : (s : StoreState) (qs : List LiveState) (name : List ℕ) (at : ℕ) (q : LiveState) → IsStore s → qs ≡ s.queues → StandsAt qs name at → q ≡ get_or s.queues at q → Placed s name at q
-placed s qs name at q store is stands found =
-    let there : slice_get s.queues at ≡ Some stands.queue = ap (λ us. slice_get us at) (sym is) ∙ stands.there in
-    let same : q ≡ stands.queue = found ∙ get_or_from_slice_get s.queues at stands.queue q there in
-    let name_is : q.queue.name ≡ name = ap (λ (u : LiveState). u.queue.name) same ∙ stands.named in
-    record {
-      store = store;
-      place = there ∙ ap (λ (u : LiveState). Some u) (sym same);
-      held = ap (λ n. queue_held n s.queues) name_is ∙ ap (queue_held name) (sym is) ∙ stands.held ∙ ap (λ (u : LiveState). Some u) (sym same);
-      named = name_is;
-    }
+pub rises : (ts : List TransactionState) → XidsRise ts → Rises xid_of ts
+rises [] h = tt
+rises (t ∷ ts) h = (h.0, rises ts h.1)
 
-pub placed_kept : (s : StoreState) (name : List ℕ) (at : ℕ) (q : LiveState) → Placed s name at q → IsKept q
-placed_kept s name at q p = all_at IsKept s.queues at q p.store.kept p.place
+some_is : {A : Type 0} {a b : A} → Some a ≡ Some b → a ≡ b
+some_is e = cc
 
-pub placed_there : (s : StoreState) (name : List ℕ) (at : ℕ) (q : LiveState) → Placed s name at q → (a : Option Content) → IfSome a (OnDisk (Fits s)) → IfSome a (OnDisk (QueueThere q))
-placed_there s name at q p None fits = tt
-placed_there s name at q p (Some a) fits = all_at (λ u. QueueThere u a.now.disk) s.queues at q fits.queues p.place
+-- the first of a list in order of a key isn't one that follows
+others : (u : TransactionState) (ts : List TransactionState) (i : ℕ) (t : TransactionState) → AllBehind xid_of u.xid ts → slice_get ts i ≡ Some t → same u.xid t.xid ≡ false
+others u ts i t r e = before_differs u.xid t.xid (all_at (λ v. comes_before u.xid v.xid ≡ true) ts i t r e)
 
--- the machine finds it
-pub machine_finds : (s : StoreState) (name : List ℕ) (at : ℕ) (q : LiveState) → Placed s name at q → queue_named name (state_of s).queues ≡ Some q.queue
-machine_finds s name at q p = named_by name s (Some q) (ap (λ n. queue_held n s.queues) (sym p.named) ∙ p.held)
+first_is : (u t : TransactionState) → u ≡ t → same u.xid t.xid ≡ true
+first_is u t is = ap (λ (v : TransactionState). same u.xid v.xid) (sym is) ∙ same_self u.xid
 
--- ---- the queue behind a call
+rest_lacks : (u t : TransactionState) (ts : List TransactionState) → AllBehind xid_of u.xid ts → u ≡ t → Lacks xid_of t.xid ts
+rest_lacks u t ts r is = subst (λ (v : TransactionState). Lacks xid_of v.xid ts) is (lacks_behind xid_of u.xid ts r)
 
-pub next_queue : (q r : LiveState) → IsKept q → r.log.opening ≡ q.log.opening → r.queue.name ≡ q.queue.name → r.ended ≡ false → IsSound r → IsSoundLog r.log → AllByRecursion (λ m. m.status ≡ Ready) r.queue.messages
-    → (r.queue.messages ≡ [] → length r.log.files ≡ 1) → NextQueue q r
-next_queue q r kept opening name unended sound log plain one = record {
-  opening = opening;
-  name = name;
-  kept = record {
-    unended = unended;
-    sound = sound;
-    log = log;
-    name = subst (λ n. IsTrue (is_queue_name n)) (sym name) kept.name;
-    epoch = ap (λ (o : Rattle.qls_log.specs.declared.opening.Opening.Opening). o.epoch) opening ∙ kept.epoch;
-    plain = plain;
-    one = one;
-  };
-}
+-- ---- a transaction changes
 
-pub all_with_last : (P : Message → Type 0) (ms : List Message) (m : Message) → AllByRecursion P ms → P m → AllByRecursion P (ms ++ m ∷ [])
-all_with_last P [] m h k = (k, tt)
-all_with_last P (x ∷ ms) m h k = (h.0, all_with_last P ms m h.1 k)
+pub change_none : (x : List ℕ) (f : TransactionState → TransactionState) (ts : List TransactionState) → Lacks xid_of x ts → change x f ts ≡ ts
+change_none x f [] h = refl
+change_none x f (t ∷ ts) h = λ i. cond (h.0 i) (f t) t ∷ change_none x f ts h.1 i
 
-pub all_filtered : (P : Message → Type 0) (test : Message → Bool) (ms : List Message) → AllByRecursion P ms → AllByRecursion P (filter test ms)
-all_filtered P test [] h = tt
-all_filtered P test (m ∷ ms) h =
-    elim (test m) as (λ b. AllByRecursion P (cond b (m ∷ filter test ms) (filter test ms))) [ true ↦ (h.0, all_filtered P test ms h.1) | false ↦ all_filtered P test ms h.1 ]
+change_there : (f : TransactionState → TransactionState) (ts : List TransactionState) (i : ℕ) (t : TransactionState) → Rises xid_of ts → slice_get ts i ≡ Some t → change t.xid f ts ≡ set ts i (f t)
+change_there f [] i t r e = absurd (cc)
+change_there f (u ∷ ts) zero t r e =
+    let is : u ≡ t = some_is e in
+    let first : same u.xid t.xid ≡ true = first_is u t is in
+    let rest : change t.xid f ts ≡ ts = change_none t.xid f ts (rest_lacks u t ts r.0 is) in
+    (λ i. cond (first i) (f u) u ∷ rest i) ∙ ap (λ v. f v ∷ ts) is
+change_there f (u ∷ ts) (suc i) t r e =
+    let other : same u.xid t.xid ≡ false = others u ts i t r.0 e in
+    let rest : change t.xid f ts ≡ set ts i (f t) = change_there f ts i t r.1 e in
+    λ j. cond (other j) (f u) u ∷ rest j
 
--- ---- numbers
+pub change_at : (x : List ℕ) (f : TransactionState → TransactionState) (ts : List TransactionState) (i : ℕ) → XidsRise ts → (w : StandsAt xid_of ts x i) → change x f ts ≡ set ts i (f w.item)
+change_at x f ts i r w = subst (λ y. change y f ts ≡ set ts i (f w.item)) w.keyed (change_there f ts i w.item (rises ts r) w.there)
 
-pub below_last : (n : ℕ) → n < 2 ^ 62 → (n ≡ 2 ^ 62 - 1 → ⊥) → n < 2 ^ 62 - 1
-below_last n h ne = omega (arith, h, ne)
+-- ---- a transaction goes
 
-pub isnt_last : (n : ℕ) → (n ≡ 2 ^ 62 - 1 → ⊥) → (n == 2 ^ 62 - 1) ≡ false
-isnt_last n ne = by (n == 2 ^ 62 - 1) refl
+without_none : (x : List ℕ) (ts : List TransactionState) → Lacks xid_of x ts → without x ts ≡ ts
+without_none x [] h = refl
+without_none x (t ∷ ts) h = (λ i. cond (not (h.0 i)) (t ∷ without x ts) (without x ts)) ∙ ap (λ us. t ∷ us) (without_none x ts h.1)
+
+without_there : (ts : List TransactionState) (i : ℕ) (t : TransactionState) → Rises xid_of ts → slice_get ts i ≡ Some t → without t.xid ts ≡ remove ts i
+without_there [] i t r e = absurd (cc)
+without_there (u ∷ ts) zero t r e =
+    let is : u ≡ t = some_is e in
+    let first : same u.xid t.xid ≡ true = first_is u t is in
+    (λ i. cond (not (first i)) (u ∷ without t.xid ts) (without t.xid ts)) ∙ without_none t.xid ts (rest_lacks u t ts r.0 is)
+without_there (u ∷ ts) (suc i) t r e =
+    let other : same u.xid t.xid ≡ false = others u ts i t r.0 e in
+    (λ j. cond (not (other j)) (u ∷ without t.xid ts) (without t.xid ts)) ∙ ap (λ us. u ∷ us) (without_there ts i t r.1 e)
+
+pub without_at : (x : List ℕ) (ts : List TransactionState) (i : ℕ) → XidsRise ts → (w : StandsAt xid_of ts x i) → without x ts ≡ remove ts i
+without_at x ts i r w = subst (λ y. without y ts ≡ remove ts i) w.keyed (without_there ts i w.item (rises ts r) w.there)
+
+pub without_lacks : (x : List ℕ) (ts : List TransactionState) (i : ℕ) → WouldStandAt xid_of ts x i → without x ts ≡ ts
+without_lacks x ts i w = without_none x ts (lacks_between xid_of x ts i w.before w.behind)
+
+pub change_lacks : (x : List ℕ) (f : TransactionState → TransactionState) (ts : List TransactionState) (i : ℕ) → WouldStandAt xid_of ts x i → change x f ts ≡ ts
+change_lacks x f ts i w = change_none x f ts (lacks_between xid_of x ts i w.before w.behind)
+
+-- ---- a transaction comes
+
+placed_there : (t : TransactionState) (ts : List TransactionState) (i : ℕ) → AllBefore xid_of t.xid (take i ts) → AllBehind xid_of t.xid (drop i ts) → placed t ts ≡ insert ts i t
+placed_there t [] zero b a = refl
+placed_there t [] (suc i) b a = refl
+placed_there t (u ∷ ts) zero b a = λ j. cond (a.0 j) (t ∷ u ∷ ts) (u ∷ placed t ts)
+placed_there t (u ∷ ts) (suc i) b a = (λ j. cond (not_before t.xid u.xid b.0 j) (t ∷ u ∷ ts) (u ∷ placed t ts)) ∙ ap (λ us. u ∷ us) (placed_there t ts i b.1 a)
+
+pub placed_at : (t : TransactionState) (ts : List TransactionState) (i : ℕ) → WouldStandAt xid_of ts t.xid i → placed t ts ≡ insert ts i t
+placed_at t ts i w = placed_there t ts i w.before w.behind
+
+-- ---- names
+
+named_there : (ns : List (List ℕ)) (i : ℕ) (n : List ℕ) → Rises name_of ns → slice_get ns i ≡ Some n → with_name n ns ≡ ns
+named_there [] i n r e = absurd (cc)
+named_there (m ∷ ns) zero n r e =
+    let first : same m n ≡ true = ap (same m) (sym (some_is e)) ∙ same_self m in
+    λ j. cond (first j) (m ∷ ns) (cond (comes_before n m) (n ∷ m ∷ ns) (m ∷ with_name n ns))
+named_there (m ∷ ns) (suc i) n r e =
+    let b : Before m n = all_at (λ k. comes_before m k ≡ true) ns i n r.0 e in
+    (λ j. cond (before_differs m n b j) (m ∷ ns) (cond (not_before n m b j) (n ∷ m ∷ ns) (m ∷ with_name n ns))) ∙ ap (λ ms. m ∷ ms) (named_there ns i n r.1 e)
+
+pub with_name_there : (n : List ℕ) (ns : List (List ℕ)) (i : ℕ) → Rises name_of ns → StandsAt name_of ns n i → with_name n ns ≡ ns
+with_name_there n ns i r w = subst (λ m. with_name m ns ≡ ns) w.keyed (named_there ns i w.item r w.there)
+
+name_inserted : (n : List ℕ) (ns : List (List ℕ)) (i : ℕ) → AllBefore name_of n (take i ns) → AllBehind name_of n (drop i ns) → with_name n ns ≡ insert ns i n
+name_inserted n [] zero b a = refl
+name_inserted n [] (suc i) b a = refl
+name_inserted n (m ∷ ns) zero b a = λ j. cond (behind_differs m n a.0 j) (m ∷ ns) (cond (a.0 j) (n ∷ m ∷ ns) (m ∷ with_name n ns))
+name_inserted n (m ∷ ns) (suc i) b a =
+    (λ j. cond (before_differs m n b.0 j) (m ∷ ns) (cond (not_before n m b.0 j) (n ∷ m ∷ ns) (m ∷ with_name n ns))) ∙ ap (λ ms. m ∷ ms) (name_inserted n ns i b.1 a)
+
+pub with_name_at : (n : List ℕ) (ns : List (List ℕ)) (i : ℕ) → WouldStandAt name_of ns n i → with_name n ns ≡ insert ns i n
+with_name_at n ns i w = name_inserted n ns i w.before w.behind
+
+-- ---- those that are prepared, one more at a time
+
+pub prepared_more : (ts us : List TransactionState) (t : TransactionState) → prepared_xids (ts ++ t ∷ us) ≡ prepared_xids ts ++ prepared_xids (t ∷ us)
+prepared_more [] us t = refl
+prepared_more (u ∷ ts) us t =
+    elim (is_prepared u.phase) as (λ b. map xid_of (cond b (u ∷ filter (λ v. is_prepared v.phase) (ts ++ t ∷ us)) (filter (λ v. is_prepared v.phase) (ts ++ t ∷ us))) ≡ map xid_of (cond b (u ∷ filter (λ v. is_prepared v.phase) ts) (filter (λ v. is_prepared v.phase) ts)) ++ prepared_xids (t ∷ us)) [
+      | true ↦ ap (λ xs. u.xid ∷ xs) (prepared_more ts us t)
+      | false ↦ prepared_more ts us t
+    ]
+
+-- ---- what is read of a vector that holds the table
+
+module _ (x : List ℕ) (ds ts : List TransactionState) (e : ds ≡ ts) (i : ℕ) where
+  stands : StandsAt xid_of ds x i → StandsAt xid_of ts x i
+  stands w = subst (λ us. StandsAt xid_of us x i) e w
+
+  wanting : WouldStandAt xid_of ds x i → WouldStandAt xid_of ts x i
+  wanting w = subst (λ us. WouldStandAt xid_of us x i) e w
+
+  pub named_in : XidsRise ts → StandsAt xid_of ds x i → (t : TransactionState) → t ≡ get_or ts i t → named x ts ≡ Some t
+  named_in r w t is = found_at xid_of x ts i (rises ts r) (stands w) ∙ ap (λ (u : TransactionState). Some u) (sym (at_is xid_of x ts i t (stands w) is))
+
+  pub none_in : WouldStandAt xid_of ds x i → named x ts ≡ None
+  none_in w = none_at xid_of x ts i (wanting w)
+
+  pub within_in : StandsAt xid_of ds x i → i < length ts
+  within_in w = at_within xid_of x ts i (stands w)
+
+  pub changed_in : (f : TransactionState → TransactionState) → XidsRise ts → StandsAt xid_of ds x i → (t : TransactionState) → t ≡ get_or ts i t → set ts i (f t) ≡ change x f ts
+  changed_in f r w t is = ap (λ u. set ts i (f u)) (at_is xid_of x ts i t (stands w) is) ∙ sym (change_at x f ts i r (stands w))
+
+  pub unchanged_in : (f : TransactionState → TransactionState) → WouldStandAt xid_of ds x i → ts ≡ change x f ts
+  unchanged_in f w = sym (change_lacks x f ts i (wanting w))
+
+  pub removed_in : XidsRise ts → StandsAt xid_of ds x i → remove ts i ≡ without x ts
+  removed_in r w = sym (without_at x ts i r (stands w))
+
+  pub kept_in : WouldStandAt xid_of ds x i → ts ≡ without x ts
+  kept_in w = sym (without_lacks x ts i (wanting w))
+
+pub placed_in : (t : TransactionState) (ds ts : List TransactionState) → ds ≡ ts → (i : ℕ) → WouldStandAt xid_of ds t.xid i → insert ts i t ≡ placed t ts
+placed_in t ds ts e i w = sym (placed_at t ts i (subst (λ us. WouldStandAt xid_of us t.xid i) e w))
+
+pub names_at : (ts : List TransactionState) (i : ℕ) (t : TransactionState) → i < length ts → t ≡ get_or ts i t → AllByRecursion (λ t. Rises name_of t.queues) ts → Rises name_of t.queues
+names_at ts i t h is names = all_at (λ t. Rises name_of t.queues) ts i t names (slice_get_read ts (length ts) i t refl h is)
+
+-- where an xid has no phase it doesn't stand in the table
+pub isnt_there : (x : List ℕ) (ds ts : List TransactionState) → ds ≡ ts → (i : ℕ) → XidsRise ts → phase_in x ts ≡ None → StandsAt xid_of ds x i → ⊥
+isnt_there x ds ts e i r none w =
+    let v : StandsAt xid_of ts x i = subst (λ us. StandsAt xid_of us x i) e w in
+    differ v.item (sym none ∙ ap (option_map (λ (t : TransactionState). t.phase)) (found_at xid_of x ts i (rises ts r) v))
   where
-    by : (b : Bool) → (n == 2 ^ 62 - 1) ≡ b → b ≡ false
-    by false e = refl
-    by true e = absurd (ne (eqb-true n (2 ^ 62 - 1) e))
-
--- ---- answers
-
-pub ends_err : {X E : Type 0} (R : Moment → Moment → Type 0) (done : X → Content → Content → Type 0) (r : Result X E) (a b : Option Content) → IsErr r → Tells (Passes R) a b → Tells (EndsIn done (Passes R) r) a b
-ends_err {X} {E} R done (Ok x) a b e h = absurd (not_err x e)
-  where
-    not_err : (x : X) → IsErr {T = X} {E = E} (Ok x) → ⊥
-    not_err x e = cc
-ends_err R done (Err f) a b e h = h
-
--- the cause is Spent where the queue's error is
-pub spent_of : {Y : Type 0} (f : QueueError) (x : Cause) (r : Result Y Cause) → ◌≡◌ {A = Result Reply Cause} (Err x) (by_error f) → Err x ≡ r → r ≡ Err cause.Spent → f ≡ queue.Spent
-spent_of {Y} f x r is given spent = by f (sym is ∙ ap (λ y. Err y) (err_is (given ∙ spent)))
-  where
-    err_is : ◌≡◌ {A = Result Y Cause} (Err x) (Err cause.Spent) → x ≡ cause.Spent
-    err_is e = cc
-
-    by : (f : QueueError) → ◌≡◌ {A = Result Reply Cause} (by_error f) (Err cause.Spent) → f ≡ queue.Spent
-    by queue.Unknown e = cc
-    by queue.Locked e = cc
-    by queue.Numbers e = cc
-    by queue.Failed e = cc
-    by queue.Draw e = cc
-    by queue.Spent e = refl
-    by queue.Memory e = cc
-
--- a reply is a refusal's
-pub refused_by : (f : QueueError) (reply : Reply) → ◌≡◌ {A = Result Reply Cause} (Ok reply) (by_error f) → is_fault f ≡ false
-refused_by queue.Unknown reply e = refl
-refused_by queue.Locked reply e = refl
-refused_by queue.Numbers reply e = refl
-refused_by queue.Failed reply e = cc
-refused_by queue.Draw reply e = cc
-refused_by queue.Spent reply e = cc
-refused_by queue.Memory reply e = cc
-
-pub numbers_of : (f : QueueError) (reply : Reply) → ◌≡◌ {A = Result Reply Cause} (Ok reply) (by_error f) → (f ≡ queue.Unknown → ⊥) → (f ≡ queue.Locked → ⊥) → (f ≡ queue.Numbers) × (reply ≡ Refused refusal.Spent)
-numbers_of queue.Unknown reply e unknown locked = absurd (unknown refl)
-numbers_of queue.Locked reply e unknown locked = absurd (locked refl)
-numbers_of queue.Numbers reply e unknown locked = (refl, ok_is e)
-  where
-    ok_is : ◌≡◌ {A = Result Reply Cause} (Ok reply) (Ok (Refused refusal.Spent)) → reply ≡ Refused refusal.Spent
-    ok_is e = cc
-numbers_of queue.Failed reply e unknown locked = absurd (cc)
-numbers_of queue.Draw reply e unknown locked = absurd (cc)
-numbers_of queue.Spent reply e unknown locked = absurd (cc)
-numbers_of queue.Memory reply e unknown locked = absurd (cc)
-
--- ---- a refusal: the store and the site are as before
-
-pub same_set : (qs : List LiveState) (at : ℕ) (q : LiveState) → slice_get qs at ≡ Some q → set qs at q ≡ qs
-same_set [] at q e = absurd (cc)
-same_set (u ∷ us) zero q e = ap (λ (v : LiveState). v ∷ us) (some_is e)
-  where
-    some_is : Some u ≡ Some q → q ≡ u
-    some_is e = cc
-same_set (u ∷ us) (suc at) q e = ap (λ vs. u ∷ vs) (same_set us at q e)
-
-pub same_store : (s : StoreState) (name : List ℕ) (at : ℕ) (q r : LiveState) (left : PoolState) → Placed s name at q → r ≡ q → left ≡ s.pool → ◌≡◌ {A = StoreState} (record { home = s.home; pool = left; queues = set s.queues at r }) s
-same_store s name at q r left p is pool =
-    (λ i. record { home = s.home; pool = pool i; queues = set s.queues at (is i) }) ∙ ap with_queues (same_set s.queues at q p.place)
-  where
-    with_queues : List LiveState → StoreState
-    with_queues qs = record { home = s.home; pool = s.pool; queues = qs }
-
-pub told_refused : (s w : StoreState) (c : Command) (a b : Option Content) → w ≡ s → b ≡ a → IfSome a (OnDisk (Fits s)) → ((d : Disk) → MeetsItsEnd s.home (state_of s) c d → ⊥) → Tells (RunsCommand s c w) a b
-told_refused s w c a b same stays fits had =
-    subst (λ o. Tells (RunsCommand s c w) a o) (sym stays) (subst (λ v. Tells (RunsCommand s c v) a a) (sym same) (told_none s c a fits had))
-
-pub writes_refused : (s w : StoreState) (reply : Reply) (a b : Option Content) → w ≡ s → b ≡ a → Tells (StaysWritten {X = StoreState × Reply} {E = Cause} (Ok (w, reply)) (λ x. x.0) s) a b
-writes_refused s w reply a b same stays =
-    subst (λ o. Tells (StaysWritten {X = StoreState × Reply} {E = Cause} (Ok (w, reply)) (λ x. x.0) s) a o) (sym stays) (writes_none {X = StoreState × Reply} {E = Cause} (Ok (w, reply)) (λ x. x.0) s a same)
-
--- ---- the record of a put or a take
-
-module _ (s : StoreState) (name : List ℕ) (at : ℕ) (q : LiveState) (p : Placed s name at q) (c : Command) (what : Record) (writes : written_to c ≡ Some name) (is : record_of c q.queue ≡ Some what)
-    (other : (n : List ℕ) (home : Option PoolId) → c ≡ command.Queue n home → ⊥) where
-  some_is : {A : Type 0} {x y : A} → Some x ≡ Some y → x ≡ y
-  some_is e = cc
-
-  kept : IsKept q
-  kept = placed_kept s name at q p
-
-  pub had_file : HasItsRoom → (0 < length (fresh_of q.log what) → MeetsEnd q.log.opening q.log.newest 1 s.pool → ⊥) → (d : Disk) → Fits s d → IsClean s d → MeetsItsEnd s.home (state_of s) c d → ⊥
-  had_file law had d fits clean (inl n) = other n.name n.home n.makes
-  had_file law had d fits clean (inr n) =
-      let name_is : n.name ≡ name = some_is (sym n.writes ∙ writes) in
-      let queue_is : n.queue ≡ q.queue = some_is (sym n.there ∙ ap (λ m. queue_named m (state_of s).queues) name_is ∙ machine_finds s name at q p) in
-      let what_is : n.what ≡ what = some_is (sym n.is ∙ ap (record_of c) queue_is ∙ is) in
-      let own : n.name ≡ q.queue.name = name_is ∙ sym p.named in
-      record_had s.home q kept what law s.pool d (all_at (λ u. QueueThere u d) s.queues at q fits.queues p.place) fits.pool (all_at (λ u. IsQueueClean u d) s.queues at q clean p.place).whole.read had
-      ((λ i. record_meets_end s.home (sym own i) (sym what_is i) d) ∙ n.spent)
-
-  stops : is_accepted (step (state_of s) c).1 ≡ true → (a b : Content) → Fits s a.now.disk → Arrives (IsLogStep q.log.opening) a b → Passes NoneLeaves a b → KeepsRoom q.log a b → MeetsEndWith q.log (block_length (length_of (what ∷ []))) b.now.disk
-      → StopsAtEnd s c a b
-  stops accepted a b fits went stays keeps meets = record {
-    arrives = store_arrival q.log.opening kept.epoch a b went;
-    meets = λ unmarked clean. inr (record {
-      name = name;
-      queue = q.queue;
-      what = what;
-      writes = writes;
-      there = machine_finds s name at q p;
-      is = is;
-      accepted = accepted;
-      spent = ap (λ n. record_meets_end s.home n what b.now.disk) (sym p.named)
-          ∙ record_ends s.home q kept what a b went stays (all_at (λ u. QueueThere u a.now.disk) s.queues at q fits.queues p.place) keeps unmarked (all_at (λ u. IsQueueClean u a.now.disk) s.queues at q clean p.place).whole.read meets;
-    });
-  }
-
-  pub told_stops : is_accepted (step (state_of s) c).1 ≡ true → (a b : Option Content) → IfSome a (OnDisk (Fits s)) → Tells (Arrives (IsLogStep q.log.opening)) a b → Tells (Passes NoneLeaves) a b → Tells (KeepsRoom q.log) a b
-      → IfSome b (OnDisk (MeetsEndWith q.log (block_length (length_of (what ∷ []))))) → Tells (StopsAtEnd s c) a b
-  told_stops accepted None None fits went stays keeps meets = tt
-  told_stops accepted None (Some y) fits went stays keeps meets = absurd went
-  told_stops accepted (Some x) None fits went stays keeps meets = absurd went
-  told_stops accepted (Some x) (Some y) fits went stays keeps meets = stops accepted x y fits went stays keeps meets
-
-pub arrives_if_exact : (X : Type 0) (R : Moment → Moment → Type 0) (f : QueueError) (a b : Option Content) → f ≡ queue.Spent → Tells (GoesBy {X = X} R (Err f)) a b → Tells (Arrives R) a b
-arrives_if_exact X R f a b e h = subst (λ g. Tells (GoesBy {X = X} R (Err g)) a b) e h
+    differ : (t : TransactionState) → None ≡ Some t.phase → ⊥
+    differ t e = cc

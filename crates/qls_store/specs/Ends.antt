@@ -1,64 +1,93 @@
--- What a command needs that can't be had: a file, where neither an empty one nor an id nor a file number is left.
-use Rattle.std.specs.Prelude.{◌≡◌, ◌⊎◌, ℕ, ◌+◌, Bool, true, false, List, [], ◌∷◌, Option, Some, None}
+-- What a command needs that can't be had: a file, where neither an empty one nor an id nor a file number is left, or a record id of the
+-- prepared list.
+use Rattle.std.specs.Prelude.{◌≡◌, ◌⊎◌, ℕ, ◌+◌, Bool, true, false, not, List, [], ◌∷◌, ◌++◌, map, Option, Some, None, if◌then◌else◌}
+use Rattle.std.specs.List.{slice_get}
+use Rattle.qls_model.specs.Machine.{MachineState, XidState, queue_named, xid_named, is_prepared, step}
 use Rattle.qls_model.specs.declared.machine.PoolId.{PoolId}
+use Rattle.qls_model.specs.declared.machine.QueueState.{QueueState}
 use Rattle.qls_model.specs.declared.machine.Command.{Command}
 use Rattle.qls_model.specs.declared.machine.Command.TheVariants as command
-use Rattle.qls_model.specs.declared.machine.QueueState.{QueueState}
-use Rattle.qls_model.specs.Machine.{MachineState, queue_named, step}
 use Rattle.qls_record.specs.Record.{Record}
 use Rattle.qls_site.specs.Disk.{Disk}
 use Rattle.qls_site.specs.Content.{Content, moments_since}
-use Rattle.qls_filehdr.specs.declared.JournalKind.TheVariants.{Queue}
-use Rattle.qls_meaning.specs.Journals.{Headed}
+use Rattle.qls_filehdr.specs.declared.JournalKind.{JournalKind}
+use Rattle.qls_filehdr.specs.declared.JournalKind.TheVariants as journal
 use Rattle.qls_meaning.specs.History.{AllUnmarked}
-use Rattle.qls_meaning.specs.Orderly.{journal_on}
-use Rattle.qls_meaning.specs.Spent.{new_journal_meets_end, batch_meets_end}
+use Rattle.qls_meaning.specs.Spent.{new_journal_meets_end, prepare_meets_end}
 use Rattle.qls_blocks.specs.Batching.{length_of, block_length}
 use Rattle.qls_pool.specs.Moments.{Arrives}
-use Rattle.qls_log.specs.Steps.{room_behind}
 use Rattle.qls_queue.specs.Records.{enqueue_of, dequeue_of}
-use Rattle.qls_store.specs.Stores.{StoreState, state_of, IsClean}
+use Rattle.qls_journals.specs.Ends.{at_end_for}
+use Rattle.qls_journals.specs.Moments.{IsStoreStep}
+use Rattle.qls_store.specs.Stores.{StoreState, state_of, home_of, touched, IsClean}
 use Rattle.qls_store.specs.Homes.{pool_or, is_accepted}
-use Rattle.qls_store.specs.Moments.{IsStoreStep}
 
--- the pool to which the files of a journal belong
-abbrev pub home_in : PoolId → List Headed → PoolId
-home_in default [] = default
-home_in default (f ∷ fs) = record { part = f.header.part; kib = f.header.kib }
+-- ---- the batches of a command
 
--- the record that a put or a take without a transaction writes in its queue
-abbrev pub record_of : Command → QueueState → Option Record
-record_of (command.Queue name home) q = None
-record_of (command.Drop name) q = None
-record_of (command.Put name body None) q = Some (enqueue_of (q.last + 1) body None)
-record_of (command.Put name body (Some x)) q = None
-record_of (command.Take name number None) q = Some (dequeue_of q.last number None)
-record_of (command.Take name number (Some x)) q = None
-record_of (command.Begin x) q = None
-record_of (command.Prepare x) q = None
-record_of (command.Commit x) q = None
-record_of (command.Abort x) q = None
-record_of (command.List name) q = None
-record_of command.Doubt q = None
+-- so many bytes, in whole blocks, behind what a journal has
+pub record Need : Type 0 where
+  pub kind : JournalKind
+  pub name : List ℕ
+  pub bytes : ℕ
 
--- the queue of a put or a take
-abbrev pub written_to : Command → Option (List ℕ)
-written_to (command.Queue name home) = None
-written_to (command.Drop name) = None
-written_to (command.Put name body xid) = Some name
-written_to (command.Take name number xid) = Some name
-written_to (command.Begin x) = None
-written_to (command.Prepare x) = None
-written_to (command.Commit x) = None
-written_to (command.Abort x) = None
-written_to (command.List name) = None
-written_to command.Doubt = None
+abbrev pub record_need : List ℕ → Record → Need
+record_need name r = record { kind = journal.Queue; name = name; bytes = block_length (length_of (r ∷ [])) }
 
--- the record's block doesn't fit behind the reading of the queue's journal, and no further file can be had
-abbrev pub record_meets_end : PoolId → List ℕ → Record → Disk → Bool
-record_meets_end default name r d =
-    let j = journal_on d Queue name in
-    batch_meets_end (home_in default j.files) d j.files true (room_behind j) (block_length (length_of (r ∷ [])))
+-- the end of a transaction in a queue, one block
+abbrev pub end_need : List ℕ → Need
+end_need name = record { kind = journal.Queue; name = name; bytes = 4096 }
+
+-- each batch of the prepared list, one block
+abbrev pub list_need : Need
+list_need = record { kind = journal.List; name = []; bytes = 4096 }
+
+abbrev pub put_needs : List ℕ → List ℕ → Option (List ℕ) → Option QueueState → List Need
+put_needs name body xid None = []
+put_needs name body xid (Some q) = record_need name (enqueue_of (q.last + 1) body xid) ∷ []
+
+abbrev pub take_needs : List ℕ → ℕ → Option (List ℕ) → Option QueueState → List Need
+take_needs name number xid None = []
+take_needs name number xid (Some q) = record_need name (dequeue_of q.last number xid) ∷ []
+
+-- in the list, in each queue of the transaction, and in the list again; an open transaction that aborts needs nothing of the list
+abbrev pub all_needs : List (List ℕ) → List Need
+all_needs names = list_need ∷ map end_need names ++ list_need ∷ []
+
+abbrev pub abort_needs : List (List ℕ) → Option XidState → List Need
+abort_needs names None = []
+abort_needs names (Some e) = if is_prepared e.phase then all_needs names else map end_need names
+
+-- what a command needs, where it is accepted, in this order
+abbrev pub needs_of : MachineState → Command → List Need
+needs_of S (command.Queue name home) = []
+needs_of S (command.Drop name) = []
+needs_of S (command.Put name body xid) = put_needs name body xid (queue_named name S.queues)
+needs_of S (command.Take name number xid) = take_needs name number xid (queue_named name S.queues)
+needs_of S (command.Begin x) = []
+needs_of S (command.Prepare x) = list_need ∷ []
+needs_of S (command.Commit x) = all_needs (touched x S.queues)
+needs_of S (command.Abort x) = abort_needs (touched x S.queues) (xid_named x S.xids)
+needs_of S (command.List name) = []
+needs_of S command.Doubt = []
+
+-- ---- a command that meets its end
+
+abbrev pub is_open_by : Option XidState → Bool
+is_open_by None = false
+is_open_by (Some e) = not (is_prepared e.phase)
+
+-- a prepare, and the commit of an open transaction, give one more record id of the list
+abbrev pub raises_rid : MachineState → Command → Bool
+raises_rid S (command.Queue name home) = false
+raises_rid S (command.Drop name) = false
+raises_rid S (command.Put name body xid) = false
+raises_rid S (command.Take name number xid) = false
+raises_rid S (command.Begin x) = false
+raises_rid S (command.Prepare x) = is_accepted (step S (command.Prepare x)).1
+raises_rid S (command.Commit x) = is_open_by (xid_named x S.xids)
+raises_rid S (command.Abort x) = false
+raises_rid S (command.List name) = false
+raises_rid S command.Doubt = false
 
 -- a new queue, for which there is neither an empty file nor an id
 pub record NeedsFirst (default : PoolId) (S : MachineState) (c : Command) (d : Disk) : Type 0 where
@@ -68,22 +97,28 @@ pub record NeedsFirst (default : PoolId) (S : MachineState) (c : Command) (d : D
   pub accepted : queue_named name S.queues ≡ None
   pub spent : new_journal_meets_end (pool_or default home) d ≡ true
 
--- a put or a take that the machine accepts, for whose record there is no further file
-pub record NeedsNext (default : PoolId) (S : MachineState) (c : Command) (d : Disk) : Type 0 where
-  pub name : List ℕ
-  pub queue : QueueState
-  pub what : Record
-  pub writes : written_to c ≡ Some name
-  pub there : queue_named name S.queues ≡ Some queue
-  pub is : record_of c queue ≡ Some what
+-- a batch of an accepted command, for which there is no further file
+pub record NeedsRoom (default : PoolId) (S : MachineState) (c : Command) (at : ℕ) (d : Disk) : Type 0 where
+  pub need : Need
   pub accepted : is_accepted (step S c).1 ≡ true
-  pub spent : record_meets_end default name what d ≡ true
+  pub there : slice_get (needs_of S c) at ≡ Some need
+  pub spent : at_end_for default need.kind need.name need.bytes d ≡ true
 
+-- a record id of the list, of which the last one is given
+pub record NeedsRid (S : MachineState) (c : Command) (d : Disk) : Type 0 where
+  pub raises : raises_rid S c ≡ true
+  pub spent : prepare_meets_end d ≡ true
+
+-- one of the batches can't be written
 abbrev pub MeetsItsEnd : PoolId → MachineState → Command → Disk → Type 0
-MeetsItsEnd default S c d = NeedsFirst default S c d ⊎ NeedsNext default S c d
+MeetsItsEnd default S c d = NeedsFirst default S c d ⊎ (NeedsRid S c d ⊎ ((at : ℕ) × NeedsRoom default S c at d))
+
+-- the first of them can't be written
+abbrev pub MeetsAtOnce : PoolId → MachineState → Command → Disk → Type 0
+MeetsAtOnce default S c d = NeedsFirst default S c d ⊎ (NeedsRid S c d ⊎ NeedsRoom default S c 0 d)
 
 -- The command stopped there, with nothing answered. Where the store was clean and the files that came into use were unmarked, it needs
 -- what can't be had on the disk as it is
 pub record StopsAtEnd (was : StoreState) (c : Command) (old new : Content) : Type 0 where
   pub arrives : Arrives IsStoreStep old new
-  pub meets : AllUnmarked old.now (moments_since old new) → IsClean was old.now.disk → MeetsItsEnd was.home (state_of was) c new.now.disk
+  pub meets : AllUnmarked old.now (moments_since old new) → IsClean was old.now.disk → MeetsItsEnd (home_of was) (state_of was) c new.now.disk

@@ -1,7 +1,6 @@
 pub mod Stores
-pub mod Places
+pub mod Table
 pub mod Homes
 pub mod Ends
-pub mod Moments
 pub mod Steps
-pub mod Refusals
+pub mod Calls

@@ -1,89 +1,81 @@
 -- What a store knows, the machine's state that it holds, and how it stands on a disk.
-use Rattle.std.specs.Prelude.{◌≡◌, ℕ, ◌^◌, ◌<◌, true, false, List, [], ◌∷◌, map, length, Option, Some, IsTrue}
-use Rattle.std.specs.List.{AllByRecursion, find}
-use Rattle.qls_model.specs.Bytes.{same, comes_before}
-use Rattle.qls_model.specs.Limits.{is_partition, is_kib, is_queue_name}
-use Rattle.qls_model.specs.Machine.{MachineState}
+use Rattle.std.specs.Prelude.{◌≡◌, ℕ, true, List, [], ◌∷◌, map, Some}
+use Rattle.std.specs.List.{AllByRecursion, filter}
+use Rattle.qls_model.specs.Bytes.{comes_before}
+use Rattle.qls_model.specs.Machine.{MachineState, XidState, xid_named, is_prepared}
+use Rattle.qls_model.specs.Sound.{IsSound}
+use Rattle.qls_model.specs.declared.machine.Phase.{Phase}
 use Rattle.qls_model.specs.declared.machine.PoolId.{PoolId}
-use Rattle.qls_model.specs.declared.machine.Status.TheVariants.{Ready}
-use Rattle.qls_site.specs.Disk.{Disk, FileState, file_of, full, full_file}
-use Rattle.qls_filehdr.specs.declared.JournalKind.TheVariants.{Queue}
-use Rattle.qls_filehdr.specs.declared.FileHeader.{FileHeader}
-use Rattle.qls_meaning.specs.Journals.{is_in_use, headed, journals_of}
-use Rattle.qls_meaning.specs.Dead.{past_files}
-use Rattle.qls_pool.specs.Pools.{PoolState, has}
-use Rattle.qls_pool.specs.Files.{IsWholePool}
-use Rattle.qls_log.specs.Logs.{IsSound as IsSoundLog}
-use Rattle.qls_queue.specs.Live.{LiveState, IsSound, QueueThere}
-use Rattle.qls_queue.specs.Releasing.{IsQueueClean}
+use Rattle.qls_model.specs.declared.machine.QueueState.{QueueState}
+use Rattle.qls_model.specs.declared.machine.Status.{Status}
+use Rattle.qls_model.specs.declared.machine.Status.TheVariants.{Ready, Coming, Going}
+use Rattle.qls_site.specs.Disk.{Disk}
+use Rattle.qls_decide.specs.declared.ListState.TheVariants.{Prepared}
+use Rattle.qls_queue.specs.Answers.{is_pending}
+use Rattle.qls_queue.specs.Records.{IsXid}
+use Rattle.qls_prepared.specs.Lists.{rid_of as rid_of_list}
+use Rattle.qls_journals.specs.State.{JournalsState, queues_of, AreJournals, Fits as JournalsFit, IsClean as AreClean}
 
--- the default pool, the pools of the site, and the queues by name
+-- an open or prepared transaction, and the names of the queues in which a message is coming or going by it
+pub record TransactionState : Type 0 where
+  pub xid : List ℕ
+  pub phase : Phase
+  pub queues : List (List ℕ)
+
+-- the open journals, and the transactions in byte order of xid
 pub record StoreState : Type 0 where
-  pub home : PoolId
-  pub pool : PoolState
-  pub queues : List LiveState
+  pub journals : JournalsState
+  pub transactions : List TransactionState
+
+-- the default pool
+abbrev pub home_of : StoreState → PoolId
+home_of s = s.journals.home
+
+abbrev pub xids_of : List TransactionState → List XidState
+xids_of ts = map (λ t. record { xid = t.xid; phase = t.phase }) ts
 
 abbrev pub state_of : StoreState → MachineState
-state_of s = record { queues = map (λ q. q.queue) s.queues; xids = [] }
+state_of s = record { queues = queues_of s.journals; xids = xids_of s.transactions }
 
-abbrev pub queue_held : List ℕ → List LiveState → Option LiveState
-queue_held name qs = find (λ q. same q.queue.name name) qs
+-- the record id in force in the prepared list
+abbrev pub rid_of : StoreState → ℕ
+rid_of s = rid_of_list s.journals.list
 
 -- ---- what holds of every store
 
--- A queue of a legal name that was made in this opening and has no message of a transaction. Without a message it has one file
-pub record IsKept (q : LiveState) : Type 0 where
-  pub unended : q.ended ≡ false
-  pub sound : IsSound q
-  pub log : IsSoundLog q.log
-  pub name : IsTrue (is_queue_name q.queue.name)
-  pub epoch : q.log.opening.epoch ≡ 1
-  pub plain : AllByRecursion (λ m. m.status ≡ Ready) q.queue.messages
-  pub one : q.queue.messages ≡ [] → length q.log.files ≡ 1
+-- the queues in which a message is coming or going by x, in order of their names
+abbrev pub touched : List ℕ → List QueueState → List (List ℕ)
+touched x qs = map (λ q. q.name) (filter (is_pending x) qs)
 
--- each name comes before all that follow
-abbrev pub NamesRise : List (List ℕ) → Type 0
-NamesRise [] = Unit {0}
-NamesRise (n ∷ ns) = AllByRecursion (λ m. comes_before n m ≡ true) ns × NamesRise ns
+-- each xid comes before all that follow
+abbrev pub XidsRise : List TransactionState → Type 0
+XidsRise [] = Unit {0}
+XidsRise (t ∷ ts) = AllByRecursion (λ u. comes_before t.xid u.xid ≡ true) ts × XidsRise ts
 
-abbrev pub names_of : List LiveState → List (List ℕ)
-names_of qs = map (λ q. q.queue.name) qs
+-- a message comes or goes by a transaction that there is
+abbrev pub IsKnown : List XidState → Status → Type 0
+IsKnown xs Ready = Unit {0}
+IsKnown xs (Coming x) = (e : XidState) × (xid_named x xs ≡ Some e)
+IsKnown xs (Going x) = (e : XidState) × (xid_named x xs ≡ Some e)
 
+-- The journals are open, and the machine's state is sound; each transaction has an xid within the limits and its queues, and no message one
+-- that isn't there. The list has just the transactions that are prepared, each as prepared
 pub record IsStore (s : StoreState) : Type 0 where
-  pub home : (is_partition s.home.part ≡ true) × (is_kib s.home.kib ≡ true)
-  pub kept : AllByRecursion IsKept s.queues
-  pub rising : NamesRise (names_of s.queues)
+  pub journals : AreJournals s.journals
+  pub sound : IsSound (queues_of s.journals) (xids_of s.transactions)
+  pub rising : XidsRise s.transactions
+  pub xids : AllByRecursion (λ t. IsXid t.xid) s.transactions
+  pub queues : AllByRecursion (λ t. t.queues ≡ touched t.xid (queues_of s.journals)) s.transactions
+  pub known : AllByRecursion (λ q. AllByRecursion (λ m. IsKnown (xids_of s.transactions) m.status) q.messages) (queues_of s.journals)
+  pub listed : map (λ e. e.xid) s.journals.list.entries ≡ map (λ t. t.xid) (filter (λ t. is_prepared t.phase) s.transactions)
+  pub prepared : AllByRecursion (λ e. e.state ≡ Prepared) s.journals.list.entries
 
 -- ---- on a disk
 
--- the header names a queue of the store
-pub record NamesQueue (qs : List LiveState) (h : FileHeader) : Type 0 where
-  pub kind : h.kind ≡ Queue
-  pub queue : LiveState
-  pub there : queue_held h.name qs ≡ Some queue
+-- the site is as the store's last call left it
+abbrev pub Fits : StoreState → Disk → Type 0
+Fits s d = JournalsFit s.journals d
 
--- each file in use is one of a queue of the store
-abbrev pub AllNamed : List LiveState → Disk → Type 0
-AllNamed qs d = (id : ℕ) (f : FileState) → file_of id d ≡ Some f → is_in_use f.place ≡ true → NamesQueue qs (headed (full_file f)).header
-
--- each empty file is of a pool within the limits
-abbrev pub IsFitPool : PoolState → Type 0
-IsFitPool pool = (part kib id : ℕ) → has part kib id pool.files ≡ true → (is_partition part ≡ true) × (is_kib kib ≡ true)
-
--- The pool has every empty file, ids are within their limits, the site has each queue's journal as its last call left it, and no other
--- file is in use
-pub record Fits (s : StoreState) (d : Disk) : Type 0 where
-  pub pool : IsWholePool s.pool d
-  pub limit : s.pool.greatest < 2 ^ 62
-  pub fit : IsFitPool s.pool
-  pub ids : AllByRecursion (λ f. 0 < f.id) d
-  pub queues : AllByRecursion (λ q. QueueThere q d) s.queues
-  pub own : AllNamed s.queues d
-
--- each queue's journal says the queue, breaks no damage rule, and has no dead oldest file
+-- each journal says what the store holds of it, breaks no damage rule, and has no dead oldest file
 abbrev pub IsClean : StoreState → Disk → Type 0
-IsClean s d = AllByRecursion (λ q. IsQueueClean q d) s.queues
-
--- no file lies past the reading of its journal
-abbrev pub NonePast : Disk → Type 0
-NonePast d = AllByRecursion (λ j. past_files j ≡ []) (journals_of (full d))
+IsClean s d = AreClean s.journals d

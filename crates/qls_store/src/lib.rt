@@ -1,14 +1,20 @@
-//! A store: queues, each held live over its journal, and the pools of empty files that they share.
+//! A store: the plain machine's commands, carried out on queues that are held live over their journals, and the decision of
+//! transactions over several queues in the prepared list.
 //!
 //! A [`Store`] runs commands one after another. Each has the reply and the effect of the plain machine, all that it wrote
-//! is flushed before it is answered, and files that nothing holds any more are back in their pools. Commands on
-//! transactions are not built yet.
+//! is flushed before it is answered, and files that nothing holds any more are back in their pools.
 #![tactic(auto)]
 
-mod cause;
+mod commands;
+mod ending;
+mod ends;
 pub mod laws;
-mod place;
+mod state;
 mod store;
+mod transactions;
 
-pub use cause::Cause;
+pub use qls_journals::Cause;
 pub use store::{Stepped, Store};
+
+#[cfg(test)]
+mod tests;

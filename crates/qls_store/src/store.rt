@@ -1,35 +1,34 @@
 // A store and its steps.
-ghost use Rattle.std.specs.Prelude.{◌≡◌, ◌≤◌, List, ℕ, [], None, Some, Ok, Err, IfOk, IfErr, IfSome, IsTrue, length, true, false};
-ghost use Rattle.qls_model.specs.Limits.{is_kib, is_partition, is_queue_name};
+ghost use Rattle.std.specs.Prelude.{◌≡◌, ◌+◌, None, Some, Ok, Err, [], IfOk, IfErr, IfSome, true, false, if◌then◌else◌};
+ghost use Rattle.qls_model.specs.Limits.{is_kib, is_partition};
 ghost use Rattle.qls_model.specs.Machine.{empty_state, step as machine_step};
 ghost use Rattle.qls_site.specs.Content.{Tells};
+ghost use Rattle.qls_command.specs.Within.{IsWithin};
 ghost use Rattle.qls_pool.specs.Files.{OnDisk};
 ghost use Rattle.qls_pool.specs.Moments.{EndsIn, Passes};
-ghost use Rattle.qls_pool.specs.Serials.{DrawsTaken, TakesNone};
-ghost use Rattle.qls_store.specs.Stores.{state_of, IsStore, Fits};
-ghost use Rattle.qls_store.specs.Homes.{homes_of, homes_after, is_accepted, TakesFromHome};
-ghost use Rattle.qls_store.specs.Ends.{StopsAtEnd};
-ghost use Rattle.qls_store.specs.Moments.{IsStoreStep, LeavesDead, StaysWritten};
-ghost use Rattle.qls_store.specs.Steps.{may_run, stepped, is_exact, StoreCauses, SiteCauses, RunsCommand};
+ghost use Rattle.qls_pool.specs.Serials.{DrawsTaken};
+ghost use Rattle.qls_journals.specs.Answers.{is_exact, StoreCauses};
+ghost use Rattle.qls_journals.specs.Homes.{SameHomes, TakesFromHome};
+ghost use Rattle.qls_journals.specs.Moments.{IsStoreStep, StaysWritten};
+ghost use Rattle.qls_store.specs.Stores.{state_of, home_of, rid_of, IsStore, Fits};
+ghost use Rattle.qls_store.specs.Homes.{homes_of, homes_after, is_accepted};
+ghost use Rattle.qls_store.specs.Ends.{raises_rid, StopsAtEnd};
+ghost use Rattle.qls_store.specs.Steps.{stepped, RunsCommand, LeavesDead};
 
-use crate::cause::{Cause, cause_of, refusal_or_cause};
-use crate::place::place_of;
-use qls_log::laws::{files_that_stay_stay_written, log_has_its_room};
-use qls_model::{Bytes, Command, Name, PoolId, Refusal, Reply};
+use crate::transactions::Transactions;
+use qls_journals::{Cause, Journals};
+use qls_model::{Command, PoolId, Reply};
 use qls_pool::Pool;
-use qls_queue::LiveQueue;
 use qls_site::{Serials, Site};
 use std::alloc::Global;
 use std::marker::Model;
 
-/// A store: the default pool, the pools of empty files, and the queues by name.
+/// A store: the open journals, and the transactions that are open or prepared.
 #[derive(Drop)]
 pub struct Store {
-    alloc: Global,
-    home: PoolId,
-    pool: Pool,
-    /// In order of their names.
-    queues: Vec<LiveQueue>,
+    pub(crate) alloc: Global,
+    pub(crate) journals: Journals,
+    pub(crate) transactions: Transactions,
 }
 
 impl Model for Store {
@@ -37,9 +36,9 @@ impl Model for Store {
 
     ghost Value = { StoreState };
 
-    ghost view = { λ s. record { home = s.home; pool = s.pool; queues = s.queues.items } };
+    ghost view = { λ s. record { journals = s.journals; transactions = s.transactions } };
 
-    ghost invariant = { λ s. IsStore (record { home = s.home; pool = s.pool; queues = s.queues.items }) };
+    ghost invariant = { λ s. IsStore (record { journals = s.journals; transactions = s.transactions }) };
 }
 
 /// What a step answers.
@@ -52,51 +51,56 @@ pub enum Stepped {
 }
 
 impl Store {
-    /// A store without a queue, over the pools of a site on which no file is in use. `home` is the pool of queues whose
-    /// command names none; it is within the limits.
+    /// A store without a queue and without a transaction, over the pools of a site on which no file is in use. `home` is the
+    /// pool of the prepared list, and of queues whose command names none; it is within the limits.
     pub fn new(alloc: Global, home: PoolId, pool: Pool) -> Store
         requires home { (is_partition home.part ≡ true) × (is_kib home.kib ≡ true) }
-        ensures home { result.home ≡ home }
-        ensures pool { result.pool ≡ pool }
+        ensures home { home_of result ≡ home }
+        ensures pool { result.journals.pool ≡ pool }
         ensures state { state_of result ≡ empty_state }
-        ensures queues { result.queues ≡ [] }
+        ensures queues { result.journals.queues ≡ [] }
+        ensures list { result.journals.list ≡ record { home = home; log = None; entries = []; held = []; ended = false } }
+        ensures rid { rid_of result ≡ 0 }
         ensures store { IsStore result }
     {
         Store {
             alloc,
-            home,
-            pool,
-            queues: Vec::new(alloc),
+            journals: Journals::new(alloc, home, pool),
+            transactions: Transactions::new(alloc),
         }
     }
 
     /// Runs a command: the plain machine's state and reply. All that it wrote is flushed, and files that nothing holds any
     /// more are back in their pools. A refused command makes no call and changes nothing.
     ///
-    /// The command is a line on queues without a transaction. Where told, the site is as the store's last call left it.
-    /// A store that is ended hands nothing back: Failed and Draw come only where that count of faults rose, Spent where
-    /// a file must be taken and its number or its id would be 2^62.
+    /// A transaction over several queues is decided in the prepared list: its commit is on disk there before the first queue
+    /// commits, and the list's entry goes after the last one has. The abort of a prepared transaction is decided so too; that
+    /// of an open one writes nothing in the list.
+    ///
+    /// The command's name, body, xid and pool are within the limits. Where told, the site is as the store's last call left
+    /// it. A store that is ended hands nothing back: Failed and Draw come only where that count of faults rose, Spent where a
+    /// file must be taken and its number or its id would be 2^62, or where the list's record id is 2^62 - 1.
     pub fn step<S: Site, N: Serials>(
         self,
         site: &mut S,
         serials: &mut N,
         command: Command,
     ) -> Stepped
-        requires command { IsTrue (may_run command) }
+        requires command { IsWithin (command) }
         requires fits { IfSome (S.told site.old) (OnDisk (Fits self)) }
         ensures stepped { IfOk (stepped result) (λ r. (state_of r.0, r.1) ≡ machine_step (state_of self) (command)) }
         ensures ended { IfErr (stepped result) (λ _. is_accepted (machine_step (state_of self) (command)).1 ≡ true) }
         ensures still { is_accepted (machine_step (state_of self) (command)).1 ≡ false → site.new ≡ site.old }
         ensures store { IfOk (stepped result) (λ r. IsStore r.0) }
-        ensures home { IfOk (stepped result) (λ r. r.0.home ≡ self.home) }
+        ensures rid { IfOk (stepped result) (λ r. rid_of r.0 ≡ (if raises_rid (state_of self) (command) then rid_of self + 1 else rid_of self)) }
         ensures told { Tells (EndsIn (λ r. RunsCommand self (command) r.0) (Passes IsStoreStep) (stepped result)) (S.told site.old) (S.told site.new) }
         ensures drawn { DrawsTaken (is_exact (stepped result)) (S.told site.old) (S.told site.new) (N.drawn serials.old) (N.drawn serials.new) }
         ensures leaves { Tells (LeavesDead self) (S.told site.old) (S.told site.new) }
-        ensures writes { Tells (StaysWritten (stepped result) (λ r. r.0) self) (S.told site.old) (S.told site.new) }
-        ensures pools { Tells (Passes (TakesFromHome (homes_after self.home (state_of self) (command) (homes_of self)))) (S.told site.old) (S.told site.new) }
-        ensures homes { IfOk (stepped result) (λ r. (name : List ℕ) → homes_of r.0 name ≡ homes_after self.home (state_of self) (command) (homes_of self) name) }
+        ensures writes { Tells (StaysWritten (stepped result) (λ r. r.0.journals) self.journals) (S.told site.old) (S.told site.new) }
+        ensures pools { Tells (Passes (TakesFromHome (homes_after (state_of self) (command) (homes_of self)))) (S.told site.old) (S.told site.new) }
+        ensures homes { IfOk (stepped result) (λ r. SameHomes (homes_of r.0) (homes_after (state_of self) (command) (homes_of self))) }
         ensures refused { IfOk (stepped result) (λ r. is_accepted r.1 ≡ false → (r.0 ≡ self) × (site.new ≡ site.old) × (serials.new ≡ serials.old)) }
-        ensures spent { stepped result ≡ Err Cause.Spent → Tells (StopsAtEnd self (command)) (S.told site.old) (S.told site.new) }
+        ensures spent { (stepped result) ≡ Err Cause.Spent → Tells (StopsAtEnd self (command)) (S.told site.old) (S.told site.new) }
         ensures causes { StoreCauses (S.faults site.old) (S.faults site.new) (N.faults serials.old) (N.faults serials.new) (stepped result) }
     {
         match self.run_command(site, serials, command) {
@@ -112,207 +116,42 @@ impl Store {
         serials: &mut N,
         command: Command,
     ) -> Result<(Store, Reply), Cause>
-        requires command { IsTrue (may_run command) }
+        requires command { IsWithin (command) }
         requires fits { IfSome (S.told site.old) (OnDisk (Fits self)) }
         ensures stepped { IfOk result (λ r. (state_of r.0, r.1) ≡ machine_step (state_of self) (command)) }
         ensures ended { IfErr result (λ _. is_accepted (machine_step (state_of self) (command)).1 ≡ true) }
+        ensures still { is_accepted (machine_step (state_of self) (command)).1 ≡ false → site.new ≡ site.old }
         ensures store { IfOk result (λ r. IsStore r.0) }
-        ensures home { IfOk result (λ r. r.0.home ≡ self.home) }
+        ensures rid { IfOk result (λ r. rid_of r.0 ≡ (if raises_rid (state_of self) (command) then rid_of self + 1 else rid_of self)) }
         ensures told { Tells (EndsIn (λ r. RunsCommand self (command) r.0) (Passes IsStoreStep) result) (S.told site.old) (S.told site.new) }
         ensures drawn { DrawsTaken (is_exact result) (S.told site.old) (S.told site.new) (N.drawn serials.old) (N.drawn serials.new) }
         ensures leaves { Tells (LeavesDead self) (S.told site.old) (S.told site.new) }
-        ensures writes { Tells (StaysWritten result (λ r. r.0) self) (S.told site.old) (S.told site.new) }
-        ensures pools { Tells (Passes (TakesFromHome (homes_after self.home (state_of self) (command) (homes_of self)))) (S.told site.old) (S.told site.new) }
-        ensures homes { IfOk result (λ r. (name : List ℕ) → homes_of r.0 name ≡ homes_after self.home (state_of self) (command) (homes_of self) name) }
+        ensures writes { Tells (StaysWritten result (λ r. r.0.journals) self.journals) (S.told site.old) (S.told site.new) }
+        ensures pools { Tells (Passes (TakesFromHome (homes_after (state_of self) (command) (homes_of self)))) (S.told site.old) (S.told site.new) }
+        ensures homes { IfOk result (λ r. SameHomes (homes_of r.0) (homes_after (state_of self) (command) (homes_of self))) }
         ensures refused { IfOk result (λ r. is_accepted r.1 ≡ false → (r.0 ≡ self) × (site.new ≡ site.old) × (serials.new ≡ serials.old)) }
         ensures spent { result ≡ Err Cause.Spent → Tells (StopsAtEnd self (command)) (S.told site.old) (S.told site.new) }
         ensures causes { StoreCauses (S.faults site.old) (S.faults site.new) (N.faults serials.old) (N.faults serials.new) result }
     {
-        let name = match &command {
+        let (name, xid) = match &command {
             Command::Queue { name, home } => {
                 return self.make_queue(site, serials, *name, *home);
             }
-            Command::Drop { name } => return self.drop_queue(site, *name),
-            Command::Take { name, number, .. } => {
-                return self.take(site, serials, *name, *number);
+            Command::Drop { name } => return self.drop_queue(site, serials, *name),
+            Command::Take { name, number, xid } => {
+                return self.take(site, serials, *name, *number, *xid);
             }
-            Command::List { name } => return self.list(site, *name),
-            Command::Put { name, .. } => *name,
-            _ => return Ok((self, Reply::Refused(Refusal::Line))),
+            Command::Begin { xid } => return self.begin(site, serials, *xid),
+            Command::Prepare { xid } => return self.prepare(site, serials, *xid),
+            Command::Commit { xid } => return self.commit(site, serials, *xid),
+            Command::Abort { xid } => return self.abort(site, serials, *xid),
+            Command::List { name } => return self.list(site, serials, *name),
+            Command::Doubt => return self.doubt(site, serials),
+            Command::Put { name, xid, .. } => (*name, *xid),
         };
         match command {
-            Command::Put { body, .. } => self.put(site, serials, name, body),
-            _ => Ok((self, Reply::Refused(Refusal::Line))),
+            Command::Put { body, .. } => self.put(site, serials, name, body, xid),
+            _ => self.doubt(site, serials),
         }
-    }
-
-    /// Makes a queue, whose files belong to the pool that is named, else to the default one.
-    fn make_queue<S: Site, N: Serials>(
-        mut self,
-        site: &mut S,
-        serials: &mut N,
-        name: Name,
-        home: Option<PoolId>,
-    ) -> Result<(Store, Reply), Cause>
-        requires command { IsTrue (may_run (Command.Queue name home)) }
-        requires fits { IfSome (S.told site.old) (OnDisk (Fits self)) }
-        ensures stepped { IfOk result (λ r. (state_of r.0, r.1) ≡ machine_step (state_of self) (Command.Queue name home)) }
-        ensures ended { IfErr result (λ _. is_accepted (machine_step (state_of self) (Command.Queue name home)).1 ≡ true) }
-        ensures store { IfOk result (λ r. IsStore r.0) }
-        ensures home { IfOk result (λ r. r.0.home ≡ self.home) }
-        ensures told { Tells (EndsIn (λ r. RunsCommand self (Command.Queue name home) r.0) (Passes IsStoreStep) result) (S.told site.old) (S.told site.new) }
-        ensures drawn { DrawsTaken (is_exact result) (S.told site.old) (S.told site.new) (N.drawn serials.old) (N.drawn serials.new) }
-        ensures leaves { Tells (LeavesDead self) (S.told site.old) (S.told site.new) }
-        ensures writes { Tells (StaysWritten result (λ r. r.0) self) (S.told site.old) (S.told site.new) }
-        ensures pools { Tells (Passes (TakesFromHome (homes_after self.home (state_of self) (Command.Queue name home) (homes_of self)))) (S.told site.old) (S.told site.new) }
-        ensures homes { IfOk result (λ r. (each : List ℕ) → homes_of r.0 each ≡ homes_after self.home (state_of self) (Command.Queue name home) (homes_of self) each) }
-        ensures refused { IfOk result (λ r. is_accepted r.1 ≡ false → (r.0 ≡ self) × (site.new ≡ site.old) × (serials.new ≡ serials.old)) }
-        ensures spent { result ≡ Err Cause.Spent → Tells (StopsAtEnd self (Command.Queue name home)) (S.told site.old) (S.told site.new) }
-        ensures causes { StoreCauses (S.faults site.old) (S.faults site.new) (N.faults serials.old) (N.faults serials.new) result }
-    {
-        files_that_stay_stay_written();
-        let at = match place_of(&self.queues, &name) {
-            Ok(_) => return Ok((self, Reply::Refused(Refusal::Exists))),
-            Err(at) => at,
-        };
-        self.queues.reserve(1)?;
-        let home = home.unwrap_or(self.home);
-        let queue = match LiveQueue::create(self.alloc, site, &mut self.pool, serials, name, home) {
-            Ok(queue) => queue,
-            Err(error) => return Err(cause_of(error)),
-        };
-        self.queues.insert(at, queue)?;
-        Ok((self, Reply::Done))
-    }
-
-    /// Drops a queue that has no message: its only file goes back.
-    fn drop_queue<S: Site>(mut self, site: &mut S, name: Name) -> Result<(Store, Reply), Cause>
-        requires command { IsTrue (may_run (Command.Drop name)) }
-        requires fits { IfSome (S.told site.old) (OnDisk (Fits self)) }
-        ensures stepped { IfOk result (λ r. (state_of r.0, r.1) ≡ machine_step (state_of self) (Command.Drop name)) }
-        ensures ended { IfErr result (λ _. is_accepted (machine_step (state_of self) (Command.Drop name)).1 ≡ true) }
-        ensures store { IfOk result (λ r. IsStore r.0) }
-        ensures home { IfOk result (λ r. r.0.home ≡ self.home) }
-        ensures told { Tells (EndsIn (λ r. RunsCommand self (Command.Drop name) r.0) (Passes IsStoreStep) result) (S.told site.old) (S.told site.new) }
-        ensures none { Tells TakesNone (S.told site.old) (S.told site.new) }
-        ensures leaves { Tells (LeavesDead self) (S.told site.old) (S.told site.new) }
-        ensures writes { Tells (StaysWritten result (λ r. r.0) self) (S.told site.old) (S.told site.new) }
-        ensures pools { Tells (Passes (TakesFromHome (homes_after self.home (state_of self) (Command.Drop name) (homes_of self)))) (S.told site.old) (S.told site.new) }
-        ensures homes { IfOk result (λ r. (each : List ℕ) → homes_of r.0 each ≡ homes_after self.home (state_of self) (Command.Drop name) (homes_of self) each) }
-        ensures refused { IfOk result (λ r. is_accepted r.1 ≡ false → (r.0 ≡ self) × (site.new ≡ site.old)) }
-        ensures unspent { result ≡ Err Cause.Spent → ⊥ }
-        ensures causes { SiteCauses (S.faults site.old) (S.faults site.new) result }
-    {
-        files_that_stay_stay_written();
-        let at = match place_of(&self.queues, &name) {
-            Ok(at) => at,
-            Err(_) => return Ok((self, Reply::Refused(Refusal::Queue))),
-        };
-        if self.queues[at].message_at(0).is_some() {
-            return Ok((self, Reply::Refused(Refusal::Busy)));
-        }
-        let queue = self.queues.remove(at);
-        match queue.drop_empty(site, &mut self.pool) {
-            Ok(()) => Ok((self, Reply::Done)),
-            Err(error) => Err(cause_of(error)),
-        }
-    }
-
-    /// Puts a message into a queue.
-    fn put<S: Site, N: Serials>(
-        mut self,
-        site: &mut S,
-        serials: &mut N,
-        name: Name,
-        body: Bytes,
-    ) -> Result<(Store, Reply), Cause>
-        requires command { IsTrue (may_run (Command.Put name body None)) }
-        requires fits { IfSome (S.told site.old) (OnDisk (Fits self)) }
-        ensures stepped { IfOk result (λ r. (state_of r.0, r.1) ≡ machine_step (state_of self) (Command.Put name body None)) }
-        ensures ended { IfErr result (λ _. is_accepted (machine_step (state_of self) (Command.Put name body None)).1 ≡ true) }
-        ensures store { IfOk result (λ r. IsStore r.0) }
-        ensures home { IfOk result (λ r. r.0.home ≡ self.home) }
-        ensures told { Tells (EndsIn (λ r. RunsCommand self (Command.Put name body None) r.0) (Passes IsStoreStep) result) (S.told site.old) (S.told site.new) }
-        ensures drawn { DrawsTaken (is_exact result) (S.told site.old) (S.told site.new) (N.drawn serials.old) (N.drawn serials.new) }
-        ensures leaves { Tells (LeavesDead self) (S.told site.old) (S.told site.new) }
-        ensures writes { Tells (StaysWritten result (λ r. r.0) self) (S.told site.old) (S.told site.new) }
-        ensures pools { Tells (Passes (TakesFromHome (homes_after self.home (state_of self) (Command.Put name body None) (homes_of self)))) (S.told site.old) (S.told site.new) }
-        ensures homes { IfOk result (λ r. (each : List ℕ) → homes_of r.0 each ≡ homes_after self.home (state_of self) (Command.Put name body None) (homes_of self) each) }
-        ensures refused { IfOk result (λ r. is_accepted r.1 ≡ false → (r.0 ≡ self) × (site.new ≡ site.old) × (serials.new ≡ serials.old)) }
-        ensures spent { result ≡ Err Cause.Spent → Tells (StopsAtEnd self (Command.Put name body None)) (S.told site.old) (S.told site.new) }
-        ensures causes { StoreCauses (S.faults site.old) (S.faults site.new) (N.faults serials.old) (N.faults serials.new) result }
-    {
-        files_that_stay_stay_written();
-        log_has_its_room();
-        let at = match place_of(&self.queues, &name) {
-            Ok(at) => at,
-            Err(_) => return Ok((self, Reply::Refused(Refusal::Queue))),
-        };
-        match self.queues[at].put(site, &mut self.pool, serials, body, None) {
-            Ok(number) => Ok((self, Reply::Number(number))),
-            Err(error) => Ok((self, refusal_or_cause(error)?)),
-        }
-    }
-
-    /// Takes a message from a queue.
-    fn take<S: Site, N: Serials>(
-        mut self,
-        site: &mut S,
-        serials: &mut N,
-        name: Name,
-        number: u64,
-    ) -> Result<(Store, Reply), Cause>
-        requires command { IsTrue (may_run (Command.Take name number None)) }
-        requires fits { IfSome (S.told site.old) (OnDisk (Fits self)) }
-        ensures stepped { IfOk result (λ r. (state_of r.0, r.1) ≡ machine_step (state_of self) (Command.Take name number None)) }
-        ensures ended { IfErr result (λ _. is_accepted (machine_step (state_of self) (Command.Take name number None)).1 ≡ true) }
-        ensures store { IfOk result (λ r. IsStore r.0) }
-        ensures home { IfOk result (λ r. r.0.home ≡ self.home) }
-        ensures told { Tells (EndsIn (λ r. RunsCommand self (Command.Take name number None) r.0) (Passes IsStoreStep) result) (S.told site.old) (S.told site.new) }
-        ensures drawn { DrawsTaken (is_exact result) (S.told site.old) (S.told site.new) (N.drawn serials.old) (N.drawn serials.new) }
-        ensures leaves { Tells (LeavesDead self) (S.told site.old) (S.told site.new) }
-        ensures writes { Tells (StaysWritten result (λ r. r.0) self) (S.told site.old) (S.told site.new) }
-        ensures pools { Tells (Passes (TakesFromHome (homes_after self.home (state_of self) (Command.Take name number None) (homes_of self)))) (S.told site.old) (S.told site.new) }
-        ensures homes { IfOk result (λ r. (each : List ℕ) → homes_of r.0 each ≡ homes_after self.home (state_of self) (Command.Take name number None) (homes_of self) each) }
-        ensures refused { IfOk result (λ r. is_accepted r.1 ≡ false → (r.0 ≡ self) × (site.new ≡ site.old) × (serials.new ≡ serials.old)) }
-        ensures spent { result ≡ Err Cause.Spent → Tells (StopsAtEnd self (Command.Take name number None)) (S.told site.old) (S.told site.new) }
-        ensures causes { StoreCauses (S.faults site.old) (S.faults site.new) (N.faults serials.old) (N.faults serials.new) result }
-    {
-        files_that_stay_stay_written();
-        log_has_its_room();
-        let at = match place_of(&self.queues, &name) {
-            Ok(at) => at,
-            Err(_) => return Ok((self, Reply::Refused(Refusal::Queue))),
-        };
-        match self.queues[at].take(site, &mut self.pool, serials, number, None) {
-            Ok(()) => Ok((self, Reply::Done)),
-            Err(error) => Ok((self, refusal_or_cause(error)?)),
-        }
-    }
-
-    /// The messages of a queue, copied.
-    fn list<S: Site>(self, site: &mut S, name: Name) -> Result<(Store, Reply), Cause>
-        requires command { IsTrue (may_run (Command.List name)) }
-        requires fits { IfSome (S.told site.old) (OnDisk (Fits self)) }
-        ensures stepped { IfOk result (λ r. (state_of r.0, r.1) ≡ machine_step (state_of self) (Command.List name)) }
-        ensures ended { IfErr result (λ _. is_accepted (machine_step (state_of self) (Command.List name)).1 ≡ true) }
-        ensures store { IfOk result (λ r. IsStore r.0) }
-        ensures home { IfOk result (λ r. r.0.home ≡ self.home) }
-        ensures told { Tells (EndsIn (λ r. RunsCommand self (Command.List name) r.0) (Passes IsStoreStep) result) (S.told site.old) (S.told site.new) }
-        ensures none { Tells TakesNone (S.told site.old) (S.told site.new) }
-        ensures leaves { Tells (LeavesDead self) (S.told site.old) (S.told site.new) }
-        ensures writes { Tells (StaysWritten result (λ r. r.0) self) (S.told site.old) (S.told site.new) }
-        ensures pools { Tells (Passes (TakesFromHome (homes_after self.home (state_of self) (Command.List name) (homes_of self)))) (S.told site.old) (S.told site.new) }
-        ensures homes { IfOk result (λ r. (name : List ℕ) → homes_of r.0 name ≡ homes_after self.home (state_of self) (Command.List name) (homes_of self) name) }
-        ensures refused { IfOk result (λ r. is_accepted r.1 ≡ false → (r.0 ≡ self) × (site.new ≡ site.old)) }
-        ensures unspent { result ≡ Err Cause.Spent → ⊥ }
-        ensures causes { SiteCauses (S.faults site.old) (S.faults site.new) result }
-    {
-        let at = match place_of(&self.queues, &name) {
-            Ok(at) => at,
-            Err(_) => return Ok((self, Reply::Refused(Refusal::Queue))),
-        };
-        let messages = self.queues[at].messages()?;
-        Ok((self, Reply::Messages(messages)))
     }
 }

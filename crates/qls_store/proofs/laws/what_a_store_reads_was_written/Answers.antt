@@ -1,5 +1,5 @@
-use Rattle.qls_store.proofs.ReadWritten.{reads_were_written}
+use Rattle.qls_store.proofs.Settling.{clean_whole}
 use Rattle.qls_store.proofs.laws.what_a_store_reads_was_written.Goals as goal
 
 pub returns : goal.returns
-returns c = record { written = reads_were_written c.what_is_read_was_written.ensures.written }
+returns c = record { written = λ areas h s i f w a. c.what_journals_read_was_written.ensures.written areas h s.journals i.journals f (clean_whole s.journals _ w) a }

@@ -1,238 +1,71 @@
-use Rattle.std.proofs.Common.{◌≡◌, ◌<◌, List, ℕ, Bool, true, false, Option, Some, None, IfSome, Result, Ok, Err, refl, ap, sym, subst, ◌∙◌, arith, length, get_or}
-use Rattle.std.specs.List.{remove}
-use Rattle.std.specs.Option.{is_some}
-use Rattle.qls_model.specs.Machine.{step, is_empty}
-use Rattle.qls_model.specs.declared.machine.Reply.{Reply}
-use Rattle.qls_site.specs.Content.{Tells}
-use Rattle.qls_log.specs.Steps.{IsLogStep}
-use Rattle.qls_pool.specs.Files.{OnDisk}
-use Rattle.qls_pool.specs.Moments.{Passes}
-use Rattle.qls_store.specs.declared.cause.Cause.{Cause}
-use Rattle.qls_store.specs.declared.cause.Cause.TheVariants.{Spent}
-use Rattle.qls_store.specs.Moments.{LeavesDead}
-use Rattle.qls_store.proofs.Accepting.{drop_accepted}
-use Rattle.qls_store.proofs.Making.{passed}
+use Rattle.std.proofs.Common.{◌≡◌, None, Ok, Err, IfSome, sym, ap, subst, ◌∙◌, true}
+use Rattle.std.proofs.lemmas.Result.{err_from_is_err_and}
 use Rattle.qls_model.specs.declared.machine.Command.TheVariants as command
-use Rattle.qls_model.specs.declared.machine.Reply.TheVariants.{Refused, Done}
 use Rattle.qls_model.specs.declared.machine.Refusal.TheVariants as refusal
-use Rattle.qls_queue.specs.Live.{LiveState, QueueThere}
-use Rattle.qls_store.specs.Stores.{StoreState, state_of, Fits, IsKept}
-use Rattle.qls_store.specs.Homes.{homes_of, homes_after, is_accepted}
-use Rattle.qls_store.proofs.Machines.{no_end_refused, homes_refused}
-use Rattle.qls_store.proofs.Names.{is_within, is_kept, all_at}
-use Rattle.qls_store.proofs.Resting.{told_none, leaves_none, writes_kept}
-use Rattle.qls_store.proofs.Dropping.{drop_missing, drop_busy, has_first, has_none, pools_untaken, IsDropped, dropped_there, writes_failed, handed_store, handed_stepped, handed_homes, handed_runs, handed_writes, handed_leaves, handed_step, never_spent, kept_there, stands_there, pool_there}
-use Rattle.qls_store.proofs.store.Store.drop_queue.Given.{Over}
+use Rattle.qls_model.specs.declared.machine.Reply.TheVariants.{Done, Refused}
+use Rattle.qls_pool.specs.Files.{OnDisk}
+use Rattle.qls_store.specs.Stores.{StoreState, Fits}
+use Rattle.qls_store.proofs.Running.{Runs}
+use Rattle.qls_queue.specs.Live.{LiveState}
+use Rattle.qls_journals.specs.Places.{StandsAt}
+use Rattle.qls_journals.specs.Homes.{with_home}
+use Rattle.qls_journals.specs.State.{JournalsState}
+use Rattle.qls_store.specs.Homes.{homes_of}
+use Rattle.qls_store.proofs.Running.{Went, broken, site_causes}
+use Rattle.qls_store.proofs.Makes.{at_place}
+use Rattle.std.proofs.Common.{not, arith}
+use Rattle.qls_model.specs.Machine.{is_empty}
+use Rattle.qls_journals.specs.Answers.{is_exact}
+use Rattle.qls_store.proofs.Resting.{drawn_untaken}
+use Rattle.qls_store.proofs.Makes.{drop_missing, drop_busy, drop_fails, drop_done, drop_store}
 use Rattle.qls_store.proofs.store.Store.drop_queue.Goals as goal
 
-pub returns-in-Err-clause-stepped : goal.returns-in-Err-clause-stepped
-returns-in-Err-clause-stepped g c =
-    drop_missing c.args.self c.deref.result.now c.args.name c.in-Err.field-0 (c.deref.ensures.value ∙ ap (λ s. s.queues) c.self.view_is) c.in-Err.ensures.place
+pub returns-in-Err : goal.returns-in-Err
+returns-in-Err g c =
+    let s : StoreState = record { journals = c.self.inside.journals; transactions = c.self.inside.transactions } in
+    let fits : IfSome (g.S.Site.told c.args.site.now) (OnDisk (Fits s)) = subst (λ w. IfSome (g.S.Site.told c.args.site.now) (OnDisk (Fits w))) (sym c.self.view_is) c.requires.fits in
+    let r : Runs g.S.Site.told g.S.Site.faults g.N.Serials.drawn g.N.Serials.faults c.args.self (command.Drop c.args.name) c.args.site.now c.args.site.now c.args.serials.now c.args.serials.now (Ok (c.args.self, Refused refusal.Queue)) =
+    subst (λ w. Runs g.S.Site.told g.S.Site.faults g.N.Serials.drawn g.N.Serials.faults w (command.Drop c.args.name) c.args.site.now c.args.site.now c.args.serials.now c.args.serials.now (Ok (w, Refused refusal.Queue))) c.self.view_is
+    (drop_missing g.S.Site.told g.S.Site.faults g.N.Serials.drawn g.N.Serials.faults s c.self.invariant c.args.site.now c.args.serials.now c.args.name c.in-Err.field-0 c.in-Err.ensures.place fits) in
+    record { stepped = r.stepped; ended = r.ended; still = r.still; store = r.store; rid = r.rid; told = r.told; drawn = r.drawn; leaves = r.leaves; writes = r.writes; pools = r.pools; homes = r.homes; refused = r.refused; spent = r.spent; causes = r.causes }
 
-pub returns-in-Err-clause-leaves : goal.returns-in-Err-clause-leaves
-returns-in-Err-clause-leaves g c =
-    leaves_none c.args.self (g.S.Site.told c.args.site.now)
+pub returns-then-has_message : goal.returns-then-has_message
+returns-then-has_message g c =
+    let s : StoreState = record { journals = c.self.inside.journals; transactions = c.self.inside.transactions } in
+    let fits : IfSome (g.S.Site.told c.args.site.now) (OnDisk (Fits s)) = subst (λ w. IfSome (g.S.Site.told c.args.site.now) (OnDisk (Fits w))) (sym c.self.view_is) c.requires.fits in
+    let w : StandsAt s.journals.queues c.args.name c.in-Ok.at = c.in-Ok.ensures.place in
+    let busy : c.has_message.result ≡ not (is_empty w.queue.queue.messages) = at_place (λ (q : LiveState). c.has_message.result ≡ not (is_empty q.queue.messages)) s.journals.queues c.in-Ok.at w.queue w.there c.has_message.ensures.exact in
+    let r : Runs g.S.Site.told g.S.Site.faults g.N.Serials.drawn g.N.Serials.faults c.args.self (command.Drop c.args.name) c.args.site.now c.args.site.now c.args.serials.now c.args.serials.now (Ok (c.args.self, Refused refusal.Busy)) =
+    subst (λ w. Runs g.S.Site.told g.S.Site.faults g.N.Serials.drawn g.N.Serials.faults w (command.Drop c.args.name) c.args.site.now c.args.site.now c.args.serials.now c.args.serials.now (Ok (w, Refused refusal.Busy))) c.self.view_is
+    (drop_busy g.S.Site.told g.S.Site.faults g.N.Serials.drawn g.N.Serials.faults s c.self.invariant c.args.site.now c.args.serials.now c.args.name c.in-Ok.at w (sym busy ∙ c.if-has_message.true) fits) in
+    record { stepped = r.stepped; ended = r.ended; still = r.still; store = r.store; rid = r.rid; told = r.told; drawn = r.drawn; leaves = r.leaves; writes = r.writes; pools = r.pools; homes = r.homes; refused = r.refused; spent = r.spent; causes = r.causes }
 
-pub returns-in-Err-clause-writes : goal.returns-in-Err-clause-writes
-returns-in-Err-clause-writes g c =
-    writes_kept c.args.self (Refused refusal.Queue) (g.S.Site.told c.args.site.now)
+pub returns-in_err-journals : goal.returns-in_err-journals
+returns-in_err-journals g c =
+    let s : StoreState = record { journals = c.self.inside.journals; transactions = c.self.inside.transactions } in
+    let w : StandsAt s.journals.queues c.args.name c.in-Ok.at = c.in-Ok.ensures.place in
+    let busy : c.has_message.result ≡ not (is_empty w.queue.queue.messages) = at_place (λ (q : LiveState). c.has_message.result ≡ not (is_empty q.queue.messages)) s.journals.queues c.in-Ok.at w.queue w.there c.has_message.ensures.exact in
+    let p = err_from_is_err_and c.from_residual.result c.from_residual.ensures.1 in
+    let e : Err c.in_err-journals.field-0.0 ≡ c.from_residual.result = sym (p.1 ∙ ap (λ k. Err k) p.2) in
+    let r : Runs g.S.Site.told g.S.Site.faults g.N.Serials.drawn g.N.Serials.faults c.args.self (command.Drop c.args.name) c.args.site.now c.remove.new.site c.args.serials.now c.args.serials.now (c.from_residual.result) =
+    subst (λ w. Runs g.S.Site.told g.S.Site.faults g.N.Serials.drawn g.N.Serials.faults w (command.Drop c.args.name) c.args.site.now c.remove.new.site c.args.serials.now c.args.serials.now (c.from_residual.result)) c.self.view_is
+    (subst (λ z. Runs g.S.Site.told g.S.Site.faults g.N.Serials.drawn g.N.Serials.faults s (command.Drop c.args.name) c.args.site.now c.remove.new.site c.args.serials.now c.args.serials.now (z)) e (drop_fails g.S.Site.told g.S.Site.faults g.N.Serials.drawn g.N.Serials.faults s c.self.invariant c.args.site.now c.args.serials.now c.args.name c.in-Ok.at w (sym busy ∙ c.if-has_message.false) c.remove.new.site c.args.serials.now c.in_err-journals.field-0.0 (broken g.S.Site.told g.S.Site.faults g.N.Serials.drawn g.N.Serials.faults s.journals (with_home c.args.name None (homes_of s)) c.in_err-journals.field-0.0 c.args.site.now c.remove.new.site c.args.serials.now c.args.serials.now c.in_err-journals.ensures.told (drawn_untaken (is_exact {X = JournalsState} (Err c.in_err-journals.field-0.0)) (g.S.Site.told c.args.site.now) (g.S.Site.told c.remove.new.site) (g.N.Serials.drawn c.args.serials.now) c.in_err-journals.ensures.none) c.in_err-journals.ensures.leaves c.in_err-journals.ensures.writes (c.in_err-journals.ensures.pools (with_home c.args.name None (homes_of s))) (site_causes g.S.Site.told g.S.Site.faults g.N.Serials.drawn g.N.Serials.faults (Err c.in_err-journals.field-0.0) c.args.site.now c.remove.new.site c.args.serials.now c.in_err-journals.ensures.causes)) (λ k. c.in_err-journals.ensures.causes.no_end (ap (λ m. Err m) k)))) in
+    record { stepped = r.stepped; ended = r.ended; still = r.still; store = r.store; rid = r.rid; told = r.told; drawn = r.drawn; leaves = r.leaves; writes = r.writes; pools = r.pools; homes = r.homes; refused = r.refused; spent = r.spent; causes = r.causes }
 
-pub index-requires : goal.index-requires
-index-requires g c =
-    let within : c.in-Ok.at < length c.deref.result.now = is_within c.deref.result.now c.deref.result.now c.args.name c.in-Ok.at refl c.in-Ok.ensures.place in
-    omega (arith, c.deref.ensures.len)
+pub invariant_of-store : goal.invariant_of-store
+invariant_of-store g c =
+    let s : StoreState = record { journals = c.self.inside.journals; transactions = c.self.inside.transactions } in
+    let w : StandsAt s.journals.queues c.args.name c.in-Ok.at = c.in-Ok.ensures.place in
+    let busy : c.has_message.result ≡ not (is_empty w.queue.queue.messages) = at_place (λ (q : LiveState). c.has_message.result ≡ not (is_empty q.queue.messages)) s.journals.queues c.in-Ok.at w.queue w.there c.has_message.ensures.exact in
+    drop_store g.S.Site.told g.S.Site.faults g.N.Serials.drawn g.N.Serials.faults s c.self.invariant c.args.site.now c.args.serials.now c.args.name c.in-Ok.at w (sym busy ∙ c.if-has_message.false) c.remove.new.site c.args.serials.now c.in_ok-journals.journals c.in_ok-journals.ensures.queues c.in_ok-journals.ensures.list c.in_ok-journals.ensures.kept
 
-pub message_at-requires : goal.message_at-requires
-message_at-requires g c =
-    let kept = is_kept c.deref.result.now c.self.inside.queues.items c.args.name c.in-Ok.at c.index.result.now c.deref.ensures.value c.in-Ok.ensures.place c.index.ensures c.self.invariant.kept in
-    record { unended = kept.unended }
-
-pub returns-then-is_some-clause-stepped : goal.returns-then-is_some-clause-stepped
-returns-then-is_some-clause-stepped g c =
-    let some : is_some c.message_at.result ≡ true = cc in
-    let busy = drop_busy c.args.self c.deref.result.now c.args.name c.in-Ok.at c.index.result.now (c.deref.ensures.value ∙ ap (λ s. s.queues) c.self.view_is) c.in-Ok.ensures.place (c.index.ensures ∙ ap (λ (qs : List LiveState). get_or qs c.in-Ok.at c.index.result.now) (sym c.deref.ensures.value))
-    (has_first c.index.result.now.queue.messages c.message_at.result c.message_at.ensures.exact some) in
-    sym busy
-
-pub returns-then-is_some-clause-told : goal.returns-then-is_some-clause-told
-returns-then-is_some-clause-told g c =
-    let some : is_some c.message_at.result ≡ true = cc in
-    let busy = drop_busy c.args.self c.deref.result.now c.args.name c.in-Ok.at c.index.result.now (c.deref.ensures.value ∙ ap (λ s. s.queues) c.self.view_is) c.in-Ok.ensures.place (c.index.ensures ∙ ap (λ (qs : List LiveState). get_or qs c.in-Ok.at c.index.result.now) (sym c.deref.ensures.value))
-    (has_first c.index.result.now.queue.messages c.message_at.result c.message_at.ensures.exact some) in
-    told_none c.args.self (command.Drop c.args.name) (g.S.Site.told c.args.site.now) c.requires.fits (λ e. no_end_refused c.args.self.home (state_of c.args.self) (command.Drop c.args.name) refusal.Busy e busy)
-
-pub returns-then-is_some-clause-leaves : goal.returns-then-is_some-clause-leaves
-returns-then-is_some-clause-leaves g c =
-    leaves_none c.args.self (g.S.Site.told c.args.site.now)
-
-pub returns-then-is_some-clause-writes : goal.returns-then-is_some-clause-writes
-returns-then-is_some-clause-writes g c =
-    writes_kept c.args.self (Refused refusal.Busy) (g.S.Site.told c.args.site.now)
-
-pub returns-then-is_some-clause-homes : goal.returns-then-is_some-clause-homes
-returns-then-is_some-clause-homes g c =
-    let some : is_some c.message_at.result ≡ true = cc in
-    let busy = drop_busy c.args.self c.deref.result.now c.args.name c.in-Ok.at c.index.result.now (c.deref.ensures.value ∙ ap (λ s. s.queues) c.self.view_is) c.in-Ok.ensures.place (c.index.ensures ∙ ap (λ (qs : List LiveState). get_or qs c.in-Ok.at c.index.result.now) (sym c.deref.ensures.value))
-    (has_first c.index.result.now.queue.messages c.message_at.result c.message_at.ensures.exact some) in
-    λ each. ap (λ homes. homes each) (homes_refused c.args.self.home (state_of c.args.self) (command.Drop c.args.name) refusal.Busy (homes_of c.args.self) busy)
-
-pub remove-queue-requires : goal.remove-queue-requires
-remove-queue-requires g c =
-    let within : c.in-Ok.at < length c.deref.result.now = is_within c.deref.result.now c.deref.result.now c.args.name c.in-Ok.at refl c.in-Ok.ensures.place in
-    omega (arith, c.deref.ensures.len)
-
-pub drop_empty-requires-clause-unended : goal.drop_empty-requires-clause-unended
-drop_empty-requires-clause-unended g c =
-    let was : StoreState = record { home = c.self.inside.home; pool = c.self.inside.pool; queues = c.self.inside.queues.items } in
-    let none : is_some c.message_at.result ≡ false = cc in
-    let d : IsDropped was c.in-Ok.at c.args.name c.remove-queue.result =
-    dropped_there was c.deref.result.now c.args.name c.in-Ok.at c.remove-queue.result c.index.result.now c.deref.ensures.value c.in-Ok.ensures.place c.remove-queue.ensures.value c.index.ensures
-    (has_none c.index.result.now.queue.messages c.message_at.result c.message_at.ensures.exact none) in
-    (kept_there was c.in-Ok.at c.args.name c.remove-queue.result c.self.invariant d).unended
-
-pub drop_empty-requires-clause-empty : goal.drop_empty-requires-clause-empty
-drop_empty-requires-clause-empty g c =
-    let was : StoreState = record { home = c.self.inside.home; pool = c.self.inside.pool; queues = c.self.inside.queues.items } in
-    let none : is_some c.message_at.result ≡ false = cc in
-    let d : IsDropped was c.in-Ok.at c.args.name c.remove-queue.result =
-    dropped_there was c.deref.result.now c.args.name c.in-Ok.at c.remove-queue.result c.index.result.now c.deref.ensures.value c.in-Ok.ensures.place c.remove-queue.ensures.value c.index.ensures
-    (has_none c.index.result.now.queue.messages c.message_at.result c.message_at.ensures.exact none) in
-    d.empty
-
-pub drop_empty-requires-clause-one : goal.drop_empty-requires-clause-one
-drop_empty-requires-clause-one g c =
-    let was : StoreState = record { home = c.self.inside.home; pool = c.self.inside.pool; queues = c.self.inside.queues.items } in
-    let none : is_some c.message_at.result ≡ false = cc in
-    let d : IsDropped was c.in-Ok.at c.args.name c.remove-queue.result =
-    dropped_there was c.deref.result.now c.args.name c.in-Ok.at c.remove-queue.result c.index.result.now c.deref.ensures.value c.in-Ok.ensures.place c.remove-queue.ensures.value c.index.ensures
-    (has_none c.index.result.now.queue.messages c.message_at.result c.message_at.ensures.exact none) in
-    (kept_there was c.in-Ok.at c.args.name c.remove-queue.result c.self.invariant d).one d.empty
-
-pub drop_empty-requires-clause-there : goal.drop_empty-requires-clause-there
-drop_empty-requires-clause-there g c =
-    let was : StoreState = record { home = c.self.inside.home; pool = c.self.inside.pool; queues = c.self.inside.queues.items } in
-    let none : is_some c.message_at.result ≡ false = cc in
-    let d : IsDropped was c.in-Ok.at c.args.name c.remove-queue.result =
-    dropped_there was c.deref.result.now c.args.name c.in-Ok.at c.remove-queue.result c.index.result.now c.deref.ensures.value c.in-Ok.ensures.place c.remove-queue.ensures.value c.index.ensures
-    (has_none c.index.result.now.queue.messages c.message_at.result c.message_at.ensures.exact none) in
-    stands_there was c.in-Ok.at c.args.name c.remove-queue.result d (g.S.Site.told c.args.site.now) (subst (λ (s : StoreState). IfSome (g.S.Site.told c.args.site.now) (OnDisk (Fits s))) (sym c.self.view_is) c.requires.fits)
-
-pub drop_empty-requires-clause-pool : goal.drop_empty-requires-clause-pool
-drop_empty-requires-clause-pool g c =
-    pool_there (record { home = c.self.inside.home; pool = c.self.inside.pool; queues = c.self.inside.queues.items }) (g.S.Site.told c.args.site.now)
-    (subst (λ (s : StoreState). IfSome (g.S.Site.told c.args.site.now) (OnDisk (Fits s))) (sym c.self.view_is) c.requires.fits)
-
-pub returns-in-Err-drop_empty-clause-told : goal.returns-in-Err-drop_empty-clause-told
-returns-in-Err-drop_empty-clause-told g c =
-    let was : StoreState = record { home = c.self.inside.home; pool = c.self.inside.pool; queues = c.self.inside.queues.items } in
-    let none : is_some c.message_at.result ≡ false = cc in
-    let d : IsDropped was c.in-Ok.at c.args.name c.remove-queue.result =
-    dropped_there was c.deref.result.now c.args.name c.in-Ok.at c.remove-queue.result c.index.result.now c.deref.ensures.value c.in-Ok.ensures.place c.remove-queue.ensures.value c.index.ensures
-    (has_none c.index.result.now.queue.messages c.message_at.result c.message_at.ensures.exact none) in
-    handed_step was c.args.self c.self.view_is c.self.invariant c.in-Ok.at c.args.name c.remove-queue.result d c.drop_empty.new.pool c.remove-queue.new.self.items c.remove-queue.ensures.items c.drop_empty.result _ _ c.drop_empty.ensures.went
-
-pub returns-in-Err-drop_empty-clause-leaves : goal.returns-in-Err-drop_empty-clause-leaves
-returns-in-Err-drop_empty-clause-leaves g c =
-    let was : StoreState = record { home = c.self.inside.home; pool = c.self.inside.pool; queues = c.self.inside.queues.items } in
-    let none : is_some c.message_at.result ≡ false = cc in
-    let d : IsDropped was c.in-Ok.at c.args.name c.remove-queue.result =
-    dropped_there was c.deref.result.now c.args.name c.in-Ok.at c.remove-queue.result c.index.result.now c.deref.ensures.value c.in-Ok.ensures.place c.remove-queue.ensures.value c.index.ensures
-    (has_none c.index.result.now.queue.messages c.message_at.result c.message_at.ensures.exact none) in
-    handed_leaves was c.args.self c.self.view_is c.self.invariant c.in-Ok.at c.args.name c.remove-queue.result d c.drop_empty.new.pool c.remove-queue.new.self.items c.remove-queue.ensures.items _ _ c.drop_empty.ensures.leaves
-
-pub returns-in-Err-drop_empty-clause-writes : goal.returns-in-Err-drop_empty-clause-writes
-returns-in-Err-drop_empty-clause-writes g c =
-    let was : StoreState = record { home = c.self.inside.home; pool = c.self.inside.pool; queues = c.self.inside.queues.items } in
-    let none : is_some c.message_at.result ≡ false = cc in
-    let d : IsDropped was c.in-Ok.at c.args.name c.remove-queue.result =
-    dropped_there was c.deref.result.now c.args.name c.in-Ok.at c.remove-queue.result c.index.result.now c.deref.ensures.value c.in-Ok.ensures.place c.remove-queue.ensures.value c.index.ensures
-    (has_none c.index.result.now.queue.messages c.message_at.result c.message_at.ensures.exact none) in
-    writes_failed c.args.self c.cause_of.result _ _ c.drop_empty.ensures.writes
-
-pub returns-in-Err-drop_empty-clause-pools : goal.returns-in-Err-drop_empty-clause-pools
-returns-in-Err-drop_empty-clause-pools g c =
-    pools_untaken _ (IsLogStep c.remove-queue.result.log.opening) _ _ (passed (IsLogStep c.remove-queue.result.log.opening) c.drop_empty.result _ _ c.drop_empty.ensures.went) c.drop_empty.ensures.none
-
-pub returns-in-Err-drop_empty-clause-unspent : goal.returns-in-Err-drop_empty-clause-unspent
-returns-in-Err-drop_empty-clause-unspent g c =
-    λ e. never_spent c.in-Err-drop_empty.error c.cause_of.result c.in-Err-drop_empty.ensures.only c.cause_of.ensures.exact (cause_is c.cause_of.result e)
-  where
-    cause_is : (k : Cause) → ◌≡◌ {A = Result (StoreState × Reply) Cause} (Err k) (Err Spent) → k ≡ Spent
-    cause_is k e = cc
-
-pub invariant_of-self : goal.invariant_of-self
-invariant_of-self g c =
-    let was : StoreState = record { home = c.self.inside.home; pool = c.self.inside.pool; queues = c.self.inside.queues.items } in
-    let none : is_some c.message_at.result ≡ false = cc in
-    let d : IsDropped was c.in-Ok.at c.args.name c.remove-queue.result =
-    dropped_there was c.deref.result.now c.args.name c.in-Ok.at c.remove-queue.result c.index.result.now c.deref.ensures.value c.in-Ok.ensures.place c.remove-queue.ensures.value c.index.ensures
-    (has_none c.index.result.now.queue.messages c.message_at.result c.message_at.ensures.exact none) in
-    handed_store was c.args.self c.self.view_is c.self.invariant c.in-Ok.at c.args.name c.remove-queue.result d c.drop_empty.new.pool c.remove-queue.new.self.items c.remove-queue.ensures.items
-
-pub returns-in-Ok-drop_empty-clause-stepped : goal.returns-in-Ok-drop_empty-clause-stepped
-returns-in-Ok-drop_empty-clause-stepped g c =
-    let was : StoreState = record { home = c.self.inside.home; pool = c.self.inside.pool; queues = c.self.inside.queues.items } in
-    let none : is_some c.message_at.result ≡ false = cc in
-    let d : IsDropped was c.in-Ok.at c.args.name c.remove-queue.result =
-    dropped_there was c.deref.result.now c.args.name c.in-Ok.at c.remove-queue.result c.index.result.now c.deref.ensures.value c.in-Ok.ensures.place c.remove-queue.ensures.value c.index.ensures
-    (has_none c.index.result.now.queue.messages c.message_at.result c.message_at.ensures.exact none) in
-    handed_stepped was c.args.self c.self.view_is c.self.invariant c.in-Ok.at c.args.name c.remove-queue.result d c.drop_empty.new.pool c.remove-queue.new.self.items c.remove-queue.ensures.items
-
-pub returns-in-Ok-drop_empty-clause-store : goal.returns-in-Ok-drop_empty-clause-store
-returns-in-Ok-drop_empty-clause-store g c =
-    let was : StoreState = record { home = c.self.inside.home; pool = c.self.inside.pool; queues = c.self.inside.queues.items } in
-    let none : is_some c.message_at.result ≡ false = cc in
-    let d : IsDropped was c.in-Ok.at c.args.name c.remove-queue.result =
-    dropped_there was c.deref.result.now c.args.name c.in-Ok.at c.remove-queue.result c.index.result.now c.deref.ensures.value c.in-Ok.ensures.place c.remove-queue.ensures.value c.index.ensures
-    (has_none c.index.result.now.queue.messages c.message_at.result c.message_at.ensures.exact none) in
-    handed_store was c.args.self c.self.view_is c.self.invariant c.in-Ok.at c.args.name c.remove-queue.result d c.drop_empty.new.pool c.remove-queue.new.self.items c.remove-queue.ensures.items
-
-pub returns-in-Ok-drop_empty-clause-told : goal.returns-in-Ok-drop_empty-clause-told
-returns-in-Ok-drop_empty-clause-told g c =
-    let was : StoreState = record { home = c.self.inside.home; pool = c.self.inside.pool; queues = c.self.inside.queues.items } in
-    let none : is_some c.message_at.result ≡ false = cc in
-    let d : IsDropped was c.in-Ok.at c.args.name c.remove-queue.result =
-    dropped_there was c.deref.result.now c.args.name c.in-Ok.at c.remove-queue.result c.index.result.now c.deref.ensures.value c.in-Ok.ensures.place c.remove-queue.ensures.value c.index.ensures
-    (has_none c.index.result.now.queue.messages c.message_at.result c.message_at.ensures.exact none) in
-    handed_runs was c.args.self c.self.view_is c.self.invariant c.in-Ok.at c.args.name c.remove-queue.result d c.drop_empty.new.pool c.remove-queue.new.self.items c.remove-queue.ensures.items (g.S.Site.told c.args.site.now) (g.S.Site.told c.drop_empty.new.site) c.requires.fits
-    c.in-Ok-drop_empty.ensures.went c.in-Ok-drop_empty.ensures.quiet c.in-Ok-drop_empty.ensures.gone c.in-Ok-drop_empty.ensures.pool c.in-Ok-drop_empty.ensures.told
-
-pub returns-in-Ok-drop_empty-clause-leaves : goal.returns-in-Ok-drop_empty-clause-leaves
-returns-in-Ok-drop_empty-clause-leaves g c =
-    let was : StoreState = record { home = c.self.inside.home; pool = c.self.inside.pool; queues = c.self.inside.queues.items } in
-    let none : is_some c.message_at.result ≡ false = cc in
-    let d : IsDropped was c.in-Ok.at c.args.name c.remove-queue.result =
-    dropped_there was c.deref.result.now c.args.name c.in-Ok.at c.remove-queue.result c.index.result.now c.deref.ensures.value c.in-Ok.ensures.place c.remove-queue.ensures.value c.index.ensures
-    (has_none c.index.result.now.queue.messages c.message_at.result c.message_at.ensures.exact none) in
-    handed_leaves was c.args.self c.self.view_is c.self.invariant c.in-Ok.at c.args.name c.remove-queue.result d c.drop_empty.new.pool c.remove-queue.new.self.items c.remove-queue.ensures.items _ _ c.drop_empty.ensures.leaves
-
-pub returns-in-Ok-drop_empty-clause-writes : goal.returns-in-Ok-drop_empty-clause-writes
-returns-in-Ok-drop_empty-clause-writes g c =
-    let was : StoreState = record { home = c.self.inside.home; pool = c.self.inside.pool; queues = c.self.inside.queues.items } in
-    let none : is_some c.message_at.result ≡ false = cc in
-    let d : IsDropped was c.in-Ok.at c.args.name c.remove-queue.result =
-    dropped_there was c.deref.result.now c.args.name c.in-Ok.at c.remove-queue.result c.index.result.now c.deref.ensures.value c.in-Ok.ensures.place c.remove-queue.ensures.value c.index.ensures
-    (has_none c.index.result.now.queue.messages c.message_at.result c.message_at.ensures.exact none) in
-    handed_writes was c.args.self c.self.view_is c.self.invariant c.in-Ok.at c.args.name c.remove-queue.result d c.drop_empty.new.pool c.remove-queue.new.self.items c.remove-queue.ensures.items c.files_that_stay_stay_written.ensures.stays (g.S.Site.told c.args.site.now) (g.S.Site.told c.drop_empty.new.site) c.requires.fits c.in-Ok-drop_empty.ensures.went c.drop_empty.ensures.writes
-
-pub returns-in-Ok-drop_empty-clause-pools : goal.returns-in-Ok-drop_empty-clause-pools
-returns-in-Ok-drop_empty-clause-pools g c =
-    pools_untaken _ (IsLogStep c.remove-queue.result.log.opening) _ _ (passed (IsLogStep c.remove-queue.result.log.opening) c.drop_empty.result _ _ c.drop_empty.ensures.went) c.drop_empty.ensures.none
-
-pub returns-in-Ok-drop_empty-clause-homes : goal.returns-in-Ok-drop_empty-clause-homes
-returns-in-Ok-drop_empty-clause-homes g c =
-    let was : StoreState = record { home = c.self.inside.home; pool = c.self.inside.pool; queues = c.self.inside.queues.items } in
-    let none : is_some c.message_at.result ≡ false = cc in
-    let d : IsDropped was c.in-Ok.at c.args.name c.remove-queue.result =
-    dropped_there was c.deref.result.now c.args.name c.in-Ok.at c.remove-queue.result c.index.result.now c.deref.ensures.value c.in-Ok.ensures.place c.remove-queue.ensures.value c.index.ensures
-    (has_none c.index.result.now.queue.messages c.message_at.result c.message_at.ensures.exact none) in
-    handed_homes was c.args.self c.self.view_is c.self.invariant c.in-Ok.at c.args.name c.remove-queue.result d c.drop_empty.new.pool c.remove-queue.new.self.items c.remove-queue.ensures.items
-
-pub returns-in-Err-drop_empty-clause-ended : goal.returns-in-Err-drop_empty-clause-ended
-returns-in-Err-drop_empty-clause-ended g c =
-    let was : StoreState = record { home = c.self.inside.home; pool = c.self.inside.pool; queues = c.self.inside.queues.items } in
-    let none : is_some c.message_at.result ≡ false = cc in
-    let d : IsDropped was c.in-Ok.at c.args.name c.remove-queue.result =
-    dropped_there was c.deref.result.now c.args.name c.in-Ok.at c.remove-queue.result c.index.result.now c.deref.ensures.value c.in-Ok.ensures.place c.remove-queue.ensures.value c.index.ensures
-    (has_none c.index.result.now.queue.messages c.message_at.result c.message_at.ensures.exact none) in
-    subst (λ (w : StoreState). is_accepted (step (state_of w) (command.Drop c.args.name)).1 ≡ true) c.self.view_is (drop_accepted was c.in-Ok.at c.args.name c.remove-queue.result d)
+pub returns : goal.returns
+returns g c =
+    let s : StoreState = record { journals = c.self.inside.journals; transactions = c.self.inside.transactions } in
+    let w : StandsAt s.journals.queues c.args.name c.in-Ok.at = c.in-Ok.ensures.place in
+    let busy : c.has_message.result ≡ not (is_empty w.queue.queue.messages) = at_place (λ (q : LiveState). c.has_message.result ≡ not (is_empty q.queue.messages)) s.journals.queues c.in-Ok.at w.queue w.there c.has_message.ensures.exact in
+    let went : Went g.S.Site.told g.S.Site.faults g.N.Serials.drawn g.N.Serials.faults s.journals c.in_ok-journals.journals (with_home c.args.name None (homes_of s)) c.args.site.now c.remove.new.site c.args.serials.now c.args.serials.now = record { told = c.in_ok-journals.ensures.told; drawn = drawn_untaken true (g.S.Site.told c.args.site.now) (g.S.Site.told c.remove.new.site) (g.N.Serials.drawn c.args.serials.now) c.in_ok-journals.ensures.none; leaves = c.in_ok-journals.ensures.leaves; writes = c.in_ok-journals.ensures.writes; pools = c.in_ok-journals.ensures.pools (with_home c.args.name None (homes_of s)); sites_kept = c.in_ok-journals.ensures.causes.kept; draws_kept = omega arith } in
+    let r : Runs g.S.Site.told g.S.Site.faults g.N.Serials.drawn g.N.Serials.faults c.args.self (command.Drop c.args.name) c.args.site.now c.remove.new.site c.args.serials.now c.args.serials.now (Ok (record { journals = c.in_ok-journals.journals; transactions = s.transactions }, Done)) =
+    subst (λ w. Runs g.S.Site.told g.S.Site.faults g.N.Serials.drawn g.N.Serials.faults w (command.Drop c.args.name) c.args.site.now c.remove.new.site c.args.serials.now c.args.serials.now (Ok (record { journals = c.in_ok-journals.journals; transactions = s.transactions }, Done))) c.self.view_is
+    (drop_done g.S.Site.told g.S.Site.faults g.N.Serials.drawn g.N.Serials.faults s c.self.invariant c.args.site.now c.args.serials.now c.args.name c.in-Ok.at w (sym busy ∙ c.if-has_message.false) c.remove.new.site c.args.serials.now c.in_ok-journals.journals went c.in_ok-journals.ensures.queues c.in_ok-journals.ensures.list c.in_ok-journals.ensures.kept c.in_ok-journals.ensures.alive c.in_ok-journals.ensures.homes) in
+    record { stepped = r.stepped; ended = r.ended; still = r.still; store = r.store; rid = r.rid; told = r.told; drawn = r.drawn; leaves = r.leaves; writes = r.writes; pools = r.pools; homes = r.homes; refused = r.refused; spent = r.spent; causes = r.causes }
