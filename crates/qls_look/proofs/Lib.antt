@@ -1,0 +1,6 @@
+mod Settling
+mod Queues
+mod Lists
+mod Order
+mod There
+mod Whole

@@ -1,0 +1,13 @@
+pub mod Ends
+pub mod Behind
+pub mod Counts
+pub mod Enter
+pub mod Way
+pub mod Steps
+pub mod Told
+pub mod Begins
+pub mod Given
+pub mod Claims
+pub mod Runs
+pub mod Sites
+pub mod There

@@ -1,0 +1,4 @@
+pub mod ReadLogs
+pub mod Groups
+pub mod Tested
+pub mod Left
