@@ -1,6 +1,6 @@
 //! The program `qls`: a store in the folder of its first word, a script on standard input, replies on
-//! standard output. The exit status is the top call's; after a status that has one, its line goes to
-//! standard error.
+//! standard output. A show reads no script, and goes beside others that only read. The exit status is
+//! the top call's; after a status that has one, its line goes to standard error.
 #![tactic(auto)]
 
 use qls_hostsite::{HostSerials, HostSite, HostSource, Locking};
@@ -19,6 +19,7 @@ const WANT_OF_MEMORY: u8 = 6;
 /// How the job shares the store with other processes. Where there is no job no call is made on it.
 fn locking_of(job: Option<Job>) -> Locking {
     match job {
+        Some(Job::Show) => Locking::Shared,
         Some(Job::Run { .. }) | None => Locking::Exclusive,
     }
 }

@@ -22,11 +22,9 @@ use Rattle.qls_top.specs.Answers.{answers_text}
 use Rattle.qls_top.specs.Status.{IsOfLines, fault_of_scan}
 use Rattle.qls_pool.specs.Moments.{Chain, Passes, Arrives}
 use Rattle.qls_meaning.specs.History.{last_of}
-use Rattle.qls_queue.specs.Live.{LiveState}
-use Rattle.qls_queue.specs.Releasing.{IsQueueClean}
 use Rattle.qls_top.specs.Moments.{Quietly, AnswersQuietly, IsRunStep}
 use Rattle.qls_pool.specs.Serials.{TakesNone, DrawsTaken, serials_taken}
-use Rattle.qls_store.specs.Stores.{StoreState, state_of, Fits, IsClean}
+use Rattle.qls_store.specs.Stores.{StoreState, home_of, rid_of, Fits}
 use Rattle.qls_top.specs.Run.{AllAre, StaysAsItWas, MayBegin, StartsOn, Starts, TakesFilesInOrder, IsRun, EndsClean, RunsToEnd, MeetsEnd, EndsSpent, EndsSpentIn, refuses_start}
 use Rattle.qls_pool.proofs.Came.{none_came, none_same}
 use Rattle.qls_pool.proofs.Moments.{Arrives-passes, Passes-of, since_of}
@@ -34,7 +32,7 @@ use Rattle.qls_pool.proofs.Serials.{drawn_then, drawn_none}
 use Rattle.qls_top.proofs.Chains.{unmarked_parts}
 use Rattle.qls_top.proofs.Lines.{same_disk}
 use Rattle.qls_top.proofs.InOrder.{in_order}
-use Rattle.qls_top.proofs.Starting.{differ_of, listing_of, may_begin, may_not, used_may_not, unused_of, fits_unused}
+use Rattle.qls_top.proofs.Starting.{IsNew, clean_nothing, differ_of, listing_of, may_begin, may_not, used_may_not, unused_of, fits_unused}
 
 -- ---- looks alone
 
@@ -152,30 +150,29 @@ lines_in_order found (Some x) (Some y) (Some z) rise is none h k =
 
 -- ---- a run to its end
 
-run_from : (S : MachineState) (script : List ℕ) (x y z : Content) → Looked x y → Passes IsRunStep y z → IsRun S script y z → IsRun S script x z
-run_from S script x y z h k run = record {
+run_from : (S : MachineState) (given : ℕ) (script : List ℕ) (x y z : Content) → Looked x y → Passes IsRunStep y z → IsRun S given script y z → IsRun S given script x z
+run_from S given script x y z h k run = record {
   answered = run.answered ∙ ap (λ (m : Moment). m.answered ++ answers_text S (commands script)) h.now;
   stored = λ quiet unmarked. run.stored (subst (λ (m : Moment). IsQuiet m.disk) (sym h.now) quiet) (unmarked_parts IsRunStep IsRunStep x y z h.arrives k unmarked).1;
+  rid = λ unmarked. run.rid (unmarked_parts IsRunStep IsRunStep x y z h.arrives k unmarked).1;
 }
-
-pub clean_nothing : (s : StoreState) (d : Disk) → s.queues ≡ [] → IsClean s d
-clean_nothing s d none = subst (λ (qs : List LiveState). AllByRecursion (λ q. IsQueueClean q d) qs) (sym none) tt
 
 pub if_ok : (P Q : Type 0) (r : Result (Unit {0}) Fault) → IfOk r (λ _. P) → (P → Q) → IfOk r (λ _. Q)
 if_ok P Q (Ok x) h f = f h
 if_ok P Q (Err e) h f = tt
 
-pub run_done : (home : PoolId) (s : StoreState) (a b c : Option Content) (script rest : Option (List ℕ)) → state_of s ≡ empty_state → s.queues ≡ [] → Tells Looked a b → Tells (Passes IsRunStep) b c
+pub run_done : (home : PoolId) (s : StoreState) (a b c : Option Content) (script rest : Option (List ℕ)) → IsNew home s → Tells Looked a b → Tells (Passes IsRunStep) b c
     → EndsClean s b c script rest → RunsToEnd home a c script rest
-run_done home s None b c script rest state none h k ends = tt
-run_done home s (Some x) b None script rest state none h k ends = tt
-run_done home s (Some x) b (Some z) None rest state none h k ends = tt
-run_done home s (Some x) b (Some z) (Some script) None state none h k ends = tt
-run_done home s (Some x) None (Some z) (Some script) (Some rest) state none h k ends = absurd h
-run_done home s (Some x) (Some y) (Some z) (Some script) (Some rest) state none h k ends =
-    let both = ends (clean_nothing s y.now.disk none) in (both.0, run_from empty_state script x y z h k (subst (λ (S : MachineState). IsRun S script y z) state both.1))
+run_done home s None b c script rest new h k ends = tt
+run_done home s (Some x) b None script rest new h k ends = tt
+run_done home s (Some x) b (Some z) None rest new h k ends = tt
+run_done home s (Some x) b (Some z) (Some script) None new h k ends = tt
+run_done home s (Some x) None (Some z) (Some script) (Some rest) new h k ends = absurd h
+run_done home s (Some x) (Some y) (Some z) (Some script) (Some rest) new h k ends =
+    let both = ends (clean_nothing home s y.now.disk new) in
+    (both.0, run_from empty_state 0 script x y z h k (subst (λ n. IsRun empty_state n script y z) new.rid (subst (λ (S : MachineState). IsRun S (rid_of s) script y z) new.state both.1)))
 
--- ---- a run that ends since no file is left
+-- ---- a run that ends since no file is left, or no record id of the prepared list
 
 spent_from : (home : PoolId) (S : MachineState) (script : List ℕ) (x y z : Content) → Looked x y → MeetsEnd home S script y z → MeetsEnd home S script x z
 spent_from home S script x y z h e = record {
@@ -187,34 +184,34 @@ spent_from home S script x y z h e = record {
   meets = e.meets;
 }
 
-pub run_spent : (home : PoolId) (s : StoreState) (a b c : Option Content) (script : Option (List ℕ)) → s.home ≡ home → state_of s ≡ empty_state → s.queues ≡ [] → Tells Looked a b → Tells (Passes IsRunStep) b c
+pub run_spent : (home : PoolId) (s : StoreState) (a b c : Option Content) (script : Option (List ℕ)) → IsNew home s → Tells Looked a b → Tells (Passes IsRunStep) b c
     → EndsSpentIn s b c script → EndsSpent home a c script
-run_spent home s None b c script at state none h k e = tt
-run_spent home s (Some x) b None script at state none h k e = tt
-run_spent home s (Some x) b (Some z) None at state none h k e = tt
-run_spent home s (Some x) None (Some z) (Some script) at state none h k e = absurd h
-run_spent home s (Some x) (Some y) (Some z) (Some script) at state none h k e = λ unmarked.
+run_spent home s None b c script new h k e = tt
+run_spent home s (Some x) b None script new h k e = tt
+run_spent home s (Some x) b (Some z) None new h k e = tt
+run_spent home s (Some x) None (Some z) (Some script) new h k e = absurd h
+run_spent home s (Some x) (Some y) (Some z) (Some script) new h k e = λ unmarked.
     spent_from home empty_state script x y z h
-    (subst (λ (p : PoolId). MeetsEnd p empty_state script y z) at
-    (subst (λ (S : MachineState). MeetsEnd s.home S script y z) state (e (unmarked_parts IsRunStep IsRunStep x y z h.arrives k unmarked).1 (clean_nothing s y.now.disk none))))
+    (subst (λ (p : PoolId). MeetsEnd p empty_state script y z) new.home
+    (subst (λ (S : MachineState). MeetsEnd (home_of s) S script y z) new.state (e (unmarked_parts IsRunStep IsRunStep x y z h.arrives k unmarked).1 (clean_nothing home s y.now.disk new))))
 
 -- ---- the store at the start
 
-fits_in : (s : StoreState) (found : Found) (x y : Content) → IdsRise (full x.now.disk) → IsFound (full x.now.disk) found → length found.journals ≡ 0 → found.greatest < 2 ^ 62 → Looked x y
-    → s.queues ≡ [] → s.pool.greatest ≡ found.greatest → ((d : Disk) → IsListingOf found.greatest found.empties d → IsPoolOf s.pool [] d) → Fits s y.now.disk
-fits_in s found x y rise is none limit h files greatest opened =
+fits_in : (home : PoolId) (s : StoreState) (found : Found) (x y : Content) → IdsRise (full x.now.disk) → IsFound (full x.now.disk) found → length found.journals ≡ 0 → found.greatest < 2 ^ 62 → Looked x y
+    → IsNew home s → s.journals.pool.greatest ≡ found.greatest → ((d : Disk) → IsListingOf found.greatest found.empties d → IsPoolOf s.journals.pool [] d) → Fits s y.now.disk
+fits_in home s found x y rise is none limit h new greatest opened =
     let d : Disk = x.now.disk in
     let unused = unused_of (full d) found is none in
     let may = may_begin (full d) _ is.undamaged unused in
     subst (λ (m : Moment). Fits s m.disk) (sym h.now)
-    (fits_unused s d (differ_of (full d) rise, opened d (listing_of d found rise is unused)) (subst (λ n. n < 2 ^ 62) (sym greatest) limit) may files)
+    (fits_unused home s d (differ_of (full d) rise, opened d (listing_of d found rise is unused)) (subst (λ n. n < 2 ^ 62) (sym greatest) limit) may new)
 
-pub fits_started : (s : StoreState) (found : Found) (a b : Option Content) → IfSome a (λ c. IdsRise (full c.now.disk)) → IfSome a (λ c. IsFound (full c.now.disk) found) → length found.journals ≡ 0 → found.greatest < 2 ^ 62 → Tells Looked a b
-    → s.queues ≡ [] → s.pool.greatest ≡ found.greatest → ((d : Disk) → IsListingOf found.greatest found.empties d → IsPoolOf s.pool [] d) → IfSome b (OnDisk (Fits s))
-fits_started s found None None rise is none limit h files greatest opened = tt
-fits_started s found None (Some y) rise is none limit h files greatest opened = absurd h
-fits_started s found (Some x) None rise is none limit h files greatest opened = absurd h
-fits_started s found (Some x) (Some y) rise is none limit h files greatest opened = fits_in s found x y rise is none limit h files greatest opened
+pub fits_started : (home : PoolId) (s : StoreState) (found : Found) (a b : Option Content) → IfSome a (λ c. IdsRise (full c.now.disk)) → IfSome a (λ c. IsFound (full c.now.disk) found) → length found.journals ≡ 0 → found.greatest < 2 ^ 62 → Tells Looked a b
+    → IsNew home s → s.journals.pool.greatest ≡ found.greatest → ((d : Disk) → IsListingOf found.greatest found.empties d → IsPoolOf s.journals.pool [] d) → IfSome b (OnDisk (Fits s))
+fits_started home s found None None rise is none limit h new greatest opened = tt
+fits_started home s found None (Some y) rise is none limit h new greatest opened = absurd h
+fits_started home s found (Some x) None rise is none limit h new greatest opened = absurd h
+fits_started home s found (Some x) (Some y) rise is none limit h new greatest opened = fits_in home s found x y rise is none limit h new greatest opened
 
 -- ---- by the start
 

@@ -6,7 +6,7 @@ use Rattle.qls_meaning.specs.History.{AllUnmarked, last_of}
 use Rattle.qls_pool.specs.Moments.{EndsIn, Chain, Passes, Arrives}
 use Rattle.qls_pool.specs.Serials.{TakesNone, serials_taken}
 use Rattle.qls_pool.proofs.Moments.{Arrives-passes, Arrives-same, Arrives-weaken, Passes-of, Passes-weaken, since_is, since_of, since_then}
-use Rattle.qls_store.specs.Moments.{IsStoreStep}
+use Rattle.qls_journals.specs.Moments.{IsStoreStep}
 use Rattle.qls_top.specs.Moments.{Quietly, AnswersQuietly, IsRunStep, UnmarkedSince}
 
 -- ---- by the answer

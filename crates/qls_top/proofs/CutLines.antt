@@ -60,6 +60,7 @@ counted_at_end l m fault.TooLong h = omega (arith, h)
 counted_at_end l m fault.Draw h = omega (arith, ap length h)
 counted_at_end l m fault.Spent h = omega (arith, ap length h)
 counted_at_end l m fault.NotEmpty h = omega (arith, ap length h)
+counted_at_end l m fault.Damaged h = omega (arith, ap length h)
 
 pub counted_end : (old new : ℕ) (l m : Option (List ℕ)) (f : Fault) → old ≡ 0 → new ≡ 0 → EndsBy l m (Err f) → Counted old l new m (Err f)
 counted_end old new None None f o n h = tt

@@ -1,6 +1,7 @@
 -- The discipline over the moments of one call and then of the next, and where the disk stays as it is.
 use Rattle.std.proofs.Common.{◌≡◌, Bool, true, false, List, [], ◌∷◌, ◌++◌, length, Option, Some, None, refl, sym, ap, subst, arith, append_assoc, append-nil, length-append}
 use Rattle.std.specs.List.{AllByRecursion}
+use Rattle.qls_model.specs.declared.machine.PoolId.{PoolId}
 use Rattle.qls_site.specs.Disk.{Disk, FileState, Write, file_of, full}
 use Rattle.qls_site.specs.Content.{Moment}
 use Rattle.qls_meaning.specs.Chance.{EachPlaceOf, SpellsWritten}
@@ -18,9 +19,12 @@ use Rattle.qls_log.specs.Standing.{LogThere}
 use Rattle.qls_log.specs.Leaving.{LeavesFile, LeavesInOrder, WritesFile, IsWritingStep, WritesInOrder}
 use Rattle.qls_log.specs.Unwritten.{IsWrittenTo, LeaveFiles, history_with}
 use Rattle.qls_queue.specs.Live.{LiveState, QueueThere}
-use Rattle.qls_store.specs.Stores.{StoreState, IsKept, IsStore, Fits, IsClean}
-use Rattle.qls_store.specs.Homes.{Homes, IsOfHome, TakesFromHome}
-use Rattle.qls_store.specs.Moments.{AreWritten}
+use Rattle.qls_prepared.specs.Lists.{IsOwn, ThereBy}
+use Rattle.qls_prepared.specs.Moments.{WrittenBy}
+use Rattle.qls_journals.specs.State.{IsKept}
+use Rattle.qls_journals.specs.Homes.{Homes, IsOfHome, TakesFromHome}
+use Rattle.qls_store.specs.Stores.{StoreState, IsStore, Fits, IsClean}
+use Rattle.qls_journals.specs.Moments.{AreWritten}
 use Rattle.qls_top.specs.Running.{AnswersInOrder}
 
 -- ---- histories
@@ -135,6 +139,13 @@ same_writes areas h (m ∷ ms) differ c = (
   same_writes areas (next h m) ms (subst (λ (k : Moment). IdsDiffer k.disk) (sym (now_next h m)) (subst IdsDiffer (sym c.0) differ)) (chain_next SameDisk h m ms c.1),
 )
 
+pub same_takes : (areas : List FreeArea) (h : History) (ms : List Moment) → IdsDiffer (now h).disk → Chain SameDisk (now h) ms → TakesInOrder areas h ms
+same_takes areas h [] differ c = tt
+same_takes areas h (m ∷ ms) differ c = (
+  each_same (TakesFile areas h) (now h) m (λ g not used. absurd (not_both (is_in_use g.place) used not)) differ c.0,
+  same_takes areas (next h m) ms (subst (λ (k : Moment). IdsDiffer k.disk) (sym (now_next h m)) (subst IdsDiffer (sym c.0) differ)) (chain_next SameDisk h m ms c.1),
+)
+
 -- ---- what was written of a store's files stays so while the disk does
 
 abbrev pub FilesStayWritten : Type 0
@@ -158,8 +169,17 @@ queues_written law areas h ms c (q ∷ qs) kept there written = (
   queues_written law areas h ms c qs kept.1 there.1 written.1,
 )
 
-pub stays_written : FilesStayWritten → (areas : List FreeArea) (h : History) (ms : List Moment) (s : StoreState) → IsStore s → Fits s (now h).disk → Chain SameDisk (now h) ms → AreWritten areas h s → AreWritten areas (history_with h ms) s
-stays_written law areas h ms s store fits c written = queues_written law areas h ms c s.queues store.kept fits.queues written
+list_written : FilesStayWritten → (areas : List FreeArea) (h : History) (ms : List Moment) → Chain SameDisk (now h) ms → (home : PoolId) (l : Option LogState) → IsOwn l → ThereBy home l (now h).disk → WrittenBy areas h l
+    → WrittenBy areas (history_with h ms) l
+list_written law areas h ms c home None own there written = tt
+list_written law areas h ms c home (Some l) own there written = law areas h l ms there own.flushed (left_alone l (now h) ms c) written
+
+pub stays_written : FilesStayWritten → (areas : List FreeArea) (h : History) (ms : List Moment) (s : StoreState) → IsStore s → Fits s (now h).disk → Chain SameDisk (now h) ms → AreWritten areas h s.journals
+    → AreWritten areas (history_with h ms) s.journals
+stays_written law areas h ms s store fits c written = record {
+  queues = queues_written law areas h ms c s.journals.queues store.journals.kept fits.queues written.queues;
+  list = list_written law areas h ms c s.journals.list.home s.journals.list.log store.journals.list.sound.log fits.list written.list;
+}
 
 -- ---- the answer of a clean store
 
@@ -168,11 +188,11 @@ NothingDead = (s : StoreState) (d : Disk) → IsStore s → Fits s d → IsClean
 
 abbrev pub ReadsWritten : Type 0
 ReadsWritten =
-    (areas : List FreeArea) (h : History) (s : StoreState) → IsStore s → Fits s (now h).disk → IsClean s (now h).disk → AreWritten areas h s
+    (areas : List FreeArea) (h : History) (s : StoreState) → IsStore s → Fits s (now h).disk → IsClean s (now h).disk → AreWritten areas h s.journals
     → EachPlaceOf (SpellsWritten areas h) (full (now h).disk)
 
 module _ (alive : NothingDead) (reads : ReadsWritten) (stays : FilesStayWritten) (s : StoreState) (store : IsStore s) where
-  answers_whole : (h : History) (m : Moment) → Fits s m.disk → IsClean s m.disk → AreWritten [] (next h m) s → AnswersWhole [] h m
+  answers_whole : (h : History) (m : Moment) → Fits s m.disk → IsClean s m.disk → AreWritten [] (next h m) s.journals → AnswersWhole [] h m
   answers_whole h m fits clean written =
       let at : now (next h m) ≡ m = now_next h m in
       record {
@@ -182,12 +202,12 @@ module _ (alive : NothingDead) (reads : ReadsWritten) (stays : FilesStayWritten)
       }
 
   -- moments that change no disk, of which some may answer
-  pub whole_answers : (h : History) (ms : List Moment) → Fits s (now h).disk → IsClean s (now h).disk → Chain SameDisk (now h) ms → AreWritten [] h s → AnswersInOrder h ms
+  pub whole_answers : (h : History) (ms : List Moment) → Fits s (now h).disk → IsClean s (now h).disk → Chain SameDisk (now h) ms → AreWritten [] h s.journals → AnswersInOrder h ms
   whole_answers h [] fits clean c written = tt
   whole_answers h (m ∷ ms) fits clean c written =
       let fits_now : Fits s m.disk = subst (Fits s) (sym c.0) fits in
       let clean_now : IsClean s m.disk = subst (IsClean s) (sym c.0) clean in
-      let after : AreWritten [] (next h m) s = stays_written stays [] h (m ∷ []) s store fits (c.0, tt) written in (
+      let after : AreWritten [] (next h m) s.journals = stays_written stays [] h (m ∷ []) s store fits (c.0, tt) written in (
         (λ more. answers_whole h m fits_now clean_now after),
         whole_answers (next h m) ms (subst (λ (k : Moment). Fits s k.disk) (sym (now_next h m)) fits_now) (subst (λ (k : Moment). IsClean s k.disk) (sym (now_next h m)) clean_now) (chain_next SameDisk h m ms c.1) after,
       )

@@ -1,6 +1,7 @@
 -- A run from its first moment: the scan's moments are the one at its start again, and then come those of the lines.
 use Rattle.std.proofs.Common.{◌≡◌, ℕ, zero, suc, List, [], ◌++◌, replicate, Option, Some, None, IfSome, refl, sym, ◌∙◌, subst}
 use Rattle.std.specs.List.{AllByRecursion}
+use Rattle.qls_model.specs.declared.machine.PoolId.{PoolId}
 use Rattle.qls_site.specs.Disk.{IsQuiet, IdsRise, full}
 use Rattle.qls_site.specs.Content.{Moment, Content, Tells, OnlyLooks, moments_since}
 use Rattle.qls_meaning.specs.History.{History, last_of, now}
@@ -11,16 +12,17 @@ use Rattle.qls_pool.proofs.Moments.{since_is}
 use Rattle.qls_log.specs.Leaving.{LeavesInOrder, WritesInOrder}
 use Rattle.qls_log.specs.Unwritten.{IsWrittenTo, history_with}
 use Rattle.qls_queue.specs.Live.{LiveState}
-use Rattle.qls_queue.specs.Releasing.{IsQueueClean}
+use Rattle.qls_prepared.specs.Lists.{PreparedState}
+use Rattle.qls_prepared.specs.Moments.{WrittenBy}
 use Rattle.qls_store.specs.Stores.{StoreState, IsClean}
-use Rattle.qls_store.specs.Moments.{AreWritten}
+use Rattle.qls_journals.specs.Moments.{AreWritten}
 use Rattle.qls_top.specs.Moments.{IsRunStep, UnmarkedSince}
 use Rattle.qls_top.specs.Running.{AnswersInOrder}
 use Rattle.qls_top.specs.Run.{begun_at, WritesClean, LeavesClean, AnswersClean, WritesFilesInOrder, TakesFilesInOrder, KeepsDiscipline}
 use Rattle.qls_top.proofs.Chains.{unmarked_parts}
 use Rattle.qls_top.proofs.Discipline.{SameDisk, Silent, writes_then, answers_then, silent_answers, same_chain, same_leaves, same_writes, orderly_from}
 use Rattle.qls_top.proofs.LineDiscipline.{since_none, since_split, now_after, chain_then}
-use Rattle.qls_top.proofs.Starting.{differ_of}
+use Rattle.qls_top.proofs.Starting.{IsNew, clean_nothing, differ_of}
 
 -- ---- the same moment again
 
@@ -80,15 +82,15 @@ looked_keeps None (Some y) rise h takes = absurd h
 looked_keeps (Some x) None rise h takes = absurd h
 looked_keeps (Some x) (Some y) rise h takes = looked_orderly x y (differ_of (full x.now.disk) rise) h takes
 
--- ---- and the lines, on a store without a queue
+-- ---- and the lines, on a store as it is made
 
-none_written : (s : StoreState) → s.queues ≡ [] → (h : History) → AreWritten [] h s
-none_written s none h = subst (λ (qs : List LiveState). AllByRecursion (λ q. IsWrittenTo [] h q.log) qs) (sym none) tt
+none_written : (default : PoolId) (s : StoreState) → IsNew default s → (h : History) → AreWritten [] h s.journals
+none_written default s new h = record {
+  queues = subst (λ (qs : List LiveState). AllByRecursion (λ q. IsWrittenTo [] h q.log) qs) (sym new.queues) tt;
+  list = subst (λ (p : PreparedState). WrittenBy [] h p.log) (sym new.list) tt;
+}
 
-none_clean : (s : StoreState) (c : Content) → s.queues ≡ [] → IsClean s c.now.disk
-none_clean s c none = subst (λ (qs : List LiveState). AllByRecursion (λ q. IsQueueClean q c.now.disk) qs) (sym none) tt
-
-module _ (s : StoreState) (none : s.queues ≡ []) (x y z : Content) (differ : IdsDiffer x.now.disk) (looks : OnlyLooks x y) (k : Passes IsRunStep y z) where
+module _ (default : PoolId) (s : StoreState) (new : IsNew default s) (x y z : Content) (differ : IdsDiffer x.now.disk) (looks : OnlyLooks x y) (k : Passes IsRunStep y z) where
   abbrev seen : History
   seen = history_with (begun_at x) (moments_since x y)
 
@@ -101,34 +103,34 @@ module _ (s : StoreState) (none : s.queues ≡ []) (x y z : Content) (differ : I
   ran_writing : WritesClean s y z → WritesFilesInOrder x z
   ran_writing writes =
       subst (λ (ms : List Moment). WritesInOrder [] (begun_at x) ms) (sym split)
-      (writes_then [] (begun_at x) (moments_since x y) (moments_since y z) (looked_writing x y differ looks) (writes seen seen_at (none_written s none seen)))
+      (writes_then [] (begun_at x) (moments_since x y) (moments_since y z) (looked_writing x y differ looks) (writes seen seen_at (none_written default s new seen)))
 
   ran_orderly : TakesFilesInOrder x z → WritesClean s y z → LeavesClean s y z → AnswersClean s y z → KeepsDiscipline x z
   ran_orderly takes writes leaves answers = λ quiet unmarked.
       let begun : IsQuiet y.now.disk = subst (λ (m : Moment). IsQuiet m.disk) (sym looks.now) quiet in
       let back : UnmarkedSince y z = (unmarked_parts SameMoment IsRunStep x y z (looks_again x y looks) k unmarked).1 in
-      let clean : IsClean s y.now.disk = none_clean s y none in
+      let clean : IsClean s y.now.disk = clean_nothing default s y.now.disk new in
       orderly_from (begun_at x) (moments_since x z) takes (ran_writing writes)
       (chain_then LeavesInOrder SameMoment IsRunStep x y z (looks_again x y looks) k (looked_leaving x y differ looks) (leaves begun back clean))
       (subst (λ (ms : List Moment). AnswersInOrder (begun_at x) ms) (sym split)
-      (answers_then (begun_at x) (moments_since x y) (moments_since y z) (looked_answering x y differ looks) (answers seen seen_at (none_written s none seen) begun back clean)))
+      (answers_then (begun_at x) (moments_since x y) (moments_since y z) (looked_answering x y differ looks) (answers seen seen_at (none_written default s new seen) begun back clean)))
 
-pub run_writes : (s : StoreState) (a b c : Option Content) → s.queues ≡ [] → IfSome a (λ c. IdsRise (full c.now.disk)) → Tells OnlyLooks a b → Tells (Passes IsRunStep) b c → Tells (WritesClean s) b c → Tells WritesFilesInOrder a c
-run_writes s None None None none rise h k w = tt
-run_writes s None None (Some z) none rise h k w = absurd k
-run_writes s None (Some y) c none rise h k w = absurd h
-run_writes s (Some x) None c none rise h k w = absurd h
-run_writes s (Some x) (Some y) None none rise h k w = absurd k
-run_writes s (Some x) (Some y) (Some z) none rise h k w = ran_writing s none x y z (differ_of (full x.now.disk) rise) h k w
+pub run_writes : (default : PoolId) (s : StoreState) (a b c : Option Content) → IsNew default s → IfSome a (λ c. IdsRise (full c.now.disk)) → Tells OnlyLooks a b → Tells (Passes IsRunStep) b c → Tells (WritesClean s) b c → Tells WritesFilesInOrder a c
+run_writes default s None None None new rise h k w = tt
+run_writes default s None None (Some z) new rise h k w = absurd k
+run_writes default s None (Some y) c new rise h k w = absurd h
+run_writes default s (Some x) None c new rise h k w = absurd h
+run_writes default s (Some x) (Some y) None new rise h k w = absurd k
+run_writes default s (Some x) (Some y) (Some z) new rise h k w = ran_writing default s new x y z (differ_of (full x.now.disk) rise) h k w
 
-pub run_keeps : (s : StoreState) (a b c : Option Content) → s.queues ≡ [] → IfSome a (λ c. IdsRise (full c.now.disk)) → Tells OnlyLooks a b → Tells (Passes IsRunStep) b c → Tells TakesFilesInOrder a c → Tells (WritesClean s) b c
+pub run_keeps : (default : PoolId) (s : StoreState) (a b c : Option Content) → IsNew default s → IfSome a (λ c. IdsRise (full c.now.disk)) → Tells OnlyLooks a b → Tells (Passes IsRunStep) b c → Tells TakesFilesInOrder a c → Tells (WritesClean s) b c
     → Tells (LeavesClean s) b c → Tells (AnswersClean s) b c → Tells KeepsDiscipline a c
-run_keeps s None None None none rise h k t w l n = tt
-run_keeps s None None (Some z) none rise h k t w l n = absurd k
-run_keeps s None (Some y) c none rise h k t w l n = absurd h
-run_keeps s (Some x) None c none rise h k t w l n = absurd h
-run_keeps s (Some x) (Some y) None none rise h k t w l n = absurd k
-run_keeps s (Some x) (Some y) (Some z) none rise h k t w l n = ran_orderly s none x y z (differ_of (full x.now.disk) rise) h k t w l n
+run_keeps default s None None None new rise h k t w l n = tt
+run_keeps default s None None (Some z) new rise h k t w l n = absurd k
+run_keeps default s None (Some y) c new rise h k t w l n = absurd h
+run_keeps default s (Some x) None c new rise h k t w l n = absurd h
+run_keeps default s (Some x) (Some y) None new rise h k t w l n = absurd k
+run_keeps default s (Some x) (Some y) (Some z) new rise h k t w l n = ran_orderly default s new x y z (differ_of (full x.now.disk) rise) h k t w l n
 
 -- ---- no call was made
 

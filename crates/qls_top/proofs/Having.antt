@@ -1,4 +1,4 @@
--- Files that the commands of a run had where they needed them: line by line, and over a whole run.
+-- What the commands of a run had where they needed it first, a file or a record id: line by line, and over a whole run.
 use Rattle.std.proofs.Common.{◌≡◌, ◌⊎◌, inl, inr, ℕ, true, false, List, [], ◌∷◌, ◌++◌, Option, Some, None, Ok, refl, sym, ap, ◌∙◌, subst, append-nil}
 use Rattle.qls_model.specs.declared.machine.PoolId.{PoolId}
 use Rattle.qls_model.specs.declared.machine.Command.{Command}
@@ -7,13 +7,14 @@ use Rattle.qls_site.specs.Disk.{Disk}
 use Rattle.qls_site.specs.Content.{Content, Moment, Tells, moments_since}
 use Rattle.qls_command.specs.Lines.{lines, commands, command_of}
 use Rattle.qls_pool.specs.Moments.{Chain, Arrives, Passes}
-use Rattle.qls_top.specs.Answers.{built_line, state_answered}
+use Rattle.qls_top.specs.Answers.{state_answered}
 use Rattle.qls_top.specs.Cutting.{Cutter, kept_of_line, CutsTold, Counted}
-use Rattle.qls_store.specs.Stores.{StoreState, state_of, IsClean}
+use Rattle.qls_store.specs.Stores.{StoreState, state_of, home_of, rid_of, IsClean}
 use Rattle.qls_top.specs.Moments.{AtReplies, IsRunStep, UnmarkedSince}
-use Rattle.qls_top.specs.Running.{LineMeetsEnd, RunsLine}
+use Rattle.qls_top.specs.Running.{LineMeetsAtOnce, RunsLine}
 use Rattle.qls_top.specs.Run.{IsUnderWay, NextIsFree, GoesOn, HadItsFiles, HadClean, HadFiles, StaysClean}
-use Rattle.qls_top.proofs.Beginning.{Looked, clean_nothing}
+use Rattle.qls_top.proofs.Beginning.{Looked}
+use Rattle.qls_top.proofs.Starting.{IsNew, clean_nothing}
 use Rattle.qls_pool.proofs.Moments.{chain-append, chain_weaken, Arrives-same, Passes-of, since_is, since_of, since_then}
 use Rattle.qls_top.proofs.Chains.{unmarked_parts}
 use Rattle.qls_top.proofs.Lines.{cut_split, step_in}
@@ -23,15 +24,15 @@ use Rattle.qls_top.proofs.Replying.{again_chain, at_replies}
 abbrev pub GoesOnBy : PoolId → MachineState → List ℕ → List ℕ → Moment → Moment → Type 0
 GoesOnBy home S script before now n = GoesOn home S script before n ⊎ (n ≡ now)
 
--- so far each command had its file
-pub record HadSoFar (home : PoolId) (S : MachineState) (script rest : List ℕ) (s : StoreState) (old now : Content) : Type 0 where
-  pub way : IsUnderWay home S script rest s old now
+-- so far each command had what it needed first
+pub record HadSoFar (home : PoolId) (given : ℕ) (S : MachineState) (script rest : List ℕ) (s : StoreState) (old now : Content) : Type 0 where
+  pub way : IsUnderWay given S script rest s old now
   pub start : NextIsFree home S (commands script) old.now.disk ⊎ ((way.done ≡ []) × (now.now.disk ≡ old.now.disk))
   pub replies : Chain (AtReplies (GoesOnBy home S script old.now.answered now.now)) old.now (moments_since old now)
 
 -- where the files that came into use were unmarked, of a store that was clean
 abbrev pub HadWay : StoreState → Option Content → Option Content → Option (List ℕ) → List ℕ → Option (List ℕ) → StoreState → Type 0
-HadWay first (Some old) (Some new) (Some script) waiting (Some left) s = UnmarkedSince old new → IsClean first old.now.disk → HadSoFar first.home (state_of first) script (waiting ++ left) s old new
+HadWay first (Some old) (Some new) (Some script) waiting (Some left) s = UnmarkedSince old new → IsClean first old.now.disk → HadSoFar (home_of first) (rid_of first) (state_of first) script (waiting ++ left) s old new
 HadWay first None new script waiting left s = Unit {0}
 HadWay first (Some old) None script waiting left s = Unit {0}
 HadWay first (Some old) (Some new) None waiting left s = Unit {0}
@@ -39,16 +40,16 @@ HadWay first (Some old) (Some new) (Some script) waiting None s = Unit {0}
 
 -- ---- one more line
 
-module _ (home : PoolId) (Z : MachineState) (script before rest line kept : List ℕ) (s t : StoreState) (at : s.home ≡ home) (at_t : t.home ≡ home) (cut : lines before ≡ line ∷ lines rest) (is : kept ≡ kept_of_line line)
-    (old mid new : Content) (h : HadSoFar home Z script before s old mid) (went : Arrives IsRunStep old mid) (r : RunsLine s (command_of kept) t mid new) (clean : IsClean s mid.now.disk) where
-  abbrev u : IsUnderWay home Z script before s old mid
+module _ (home : PoolId) (given : ℕ) (Z : MachineState) (script before rest line kept : List ℕ) (s t : StoreState) (at : home_of s ≡ home) (cut : lines before ≡ line ∷ lines rest) (is : kept ≡ kept_of_line line)
+    (old mid new : Content) (h : HadSoFar home given Z script before s old mid) (went : Arrives IsRunStep old mid) (r : RunsLine s (command_of kept) t mid new) (clean : IsClean s mid.now.disk) where
+  abbrev u : IsUnderWay given Z script before s old mid
   u = h.way
 
   splits : commands script ≡ u.done ++ command_of kept ∷ commands rest
   splits = cut_split script before rest line kept u.done u.split cut is
 
-  free_now : LineMeetsEnd home (state_answered Z u.done) (built_line (command_of kept)) mid.now.disk → ⊥
-  free_now = subst (λ (S : MachineState). LineMeetsEnd home S (built_line (command_of kept)) mid.now.disk → ⊥) u.state (subst (λ (p : PoolId). LineMeetsEnd p (state_of s) (built_line (command_of kept)) mid.now.disk → ⊥) at (r.had clean))
+  free_now : LineMeetsAtOnce home (state_answered Z u.done) (command_of kept) mid.now.disk → ⊥
+  free_now = subst (λ (S : MachineState). LineMeetsAtOnce home S (command_of kept) mid.now.disk → ⊥) u.state (subst (λ (p : PoolId). LineMeetsAtOnce p (state_of s) (command_of kept) mid.now.disk → ⊥) at (r.had clean))
 
   -- the moment that was now goes on
   went_on : (n : Moment) → GoesOnBy home Z script old.now.answered mid.now n → GoesOnBy home Z script old.now.answered new.now n
@@ -58,7 +59,7 @@ module _ (home : PoolId) (Z : MachineState) (script before rest line kept : List
     rest = command_of kept ∷ commands rest;
     split = splits;
     answered = ap (λ (m : Moment). m.answered) e ∙ u.answered;
-    free = subst (λ (m : Moment). LineMeetsEnd home (state_answered Z u.done) (built_line (command_of kept)) m.disk → ⊥) (sym e) free_now;
+    free = subst (λ (m : Moment). LineMeetsAtOnce home (state_answered Z u.done) (command_of kept) m.disk → ⊥) (sym e) free_now;
   })
 
   started : NextIsFree home Z (commands script) old.now.disk ⊎ ((u.done ≡ []) × (mid.now.disk ≡ old.now.disk)) → NextIsFree home Z (commands script) old.now.disk
@@ -66,9 +67,9 @@ module _ (home : PoolId) (Z : MachineState) (script before rest line kept : List
   started (inr (none, same)) =
       subst (λ (d : Disk). NextIsFree home Z (commands script) d) same
       (subst (λ (cs : List (Option Command)). NextIsFree home Z cs mid.now.disk) (sym (splits ∙ ap (λ (cs : List (Option Command)). cs ++ command_of kept ∷ commands rest) none))
-      (subst (λ (cs : List (Option Command)). LineMeetsEnd home (state_answered Z cs) (built_line (command_of kept)) mid.now.disk → ⊥) none free_now))
+      (subst (λ (cs : List (Option Command)). LineMeetsAtOnce home (state_answered Z cs) (command_of kept) mid.now.disk → ⊥) none free_now))
 
-  had_in : HadSoFar home Z script rest t old new
+  had_in : HadSoFar home given Z script rest t old new
   had_in =
       let xs : List Moment = went.since in
       let ys : List Moment = r.arrives.since in
@@ -79,22 +80,22 @@ module _ (home : PoolId) (Z : MachineState) (script before rest line kept : List
       (subst (λ (ms : List Moment). Chain (AtReplies (GoesOnBy home Z script old.now.answered mid.now)) old.now ms) (since_of IsRunStep old mid went) h.replies) in
       let last : Chain (AtReplies P) mid.now ys = chain_weaken (AtReplies (λ n. n ≡ new.now)) (AtReplies P) (at_replies (λ n. n ≡ new.now) P (λ n e. inr e)) mid.now ys r.last in
       record {
-        way = step_in home Z script before rest line kept s t old mid new at at_t cut is u r;
+        way = step_in given Z script before rest line kept s t old mid new cut is u r;
         start = inl (started h.start);
         replies = subst (λ (ms : List Moment). Chain (AtReplies P) old.now ms) (sym split) (chain-append (AtReplies P) old.now xs ys so_far (subst (λ (m : Moment). Chain (AtReplies P) m ys) went.last last));
       }
 
-pub line_had : (first : StoreState) (old mid new : Option Content) (script left rest : Option (List ℕ)) (a b : Cutter) (kept : List ℕ) (s t : StoreState) → s.home ≡ first.home → t.home ≡ first.home
+pub line_had : (first : StoreState) (old mid new : Option Content) (script left rest : Option (List ℕ)) (a b : Cutter) (kept : List ℕ) (s t : StoreState) → home_of s ≡ home_of first
     → HadWay first old mid script a.waiting left s → CutsTold a left b rest kept true → Tells (Arrives IsRunStep) old mid → Tells (StaysClean first s) old mid → Tells (RunsLine s (command_of kept) t) mid new → HadWay first old new script b.waiting rest t
-line_had first None mid new script left rest a b kept s t hs ht u cut went clean r = tt
-line_had first (Some old) mid None script left rest a b kept s t hs ht u cut went clean r = tt
-line_had first (Some old) mid (Some new) None left rest a b kept s t hs ht u cut went clean r = tt
-line_had first (Some old) mid (Some new) (Some script) left None a b kept s t hs ht u cut went clean r = tt
-line_had first (Some old) None (Some new) (Some script) left (Some m) a b kept s t hs ht u cut went clean r = absurd r
-line_had first (Some old) (Some mid) (Some new) (Some script) None (Some m) a b kept s t hs ht u cut went clean r = absurd cut
-line_had first (Some old) (Some mid) (Some new) (Some script) (Some l) (Some m) a b kept s t hs ht u cut went clean r = λ unmarked begun.
+line_had first None mid new script left rest a b kept s t hs u cut went clean r = tt
+line_had first (Some old) mid None script left rest a b kept s t hs u cut went clean r = tt
+line_had first (Some old) mid (Some new) None left rest a b kept s t hs u cut went clean r = tt
+line_had first (Some old) mid (Some new) (Some script) left None a b kept s t hs u cut went clean r = tt
+line_had first (Some old) None (Some new) (Some script) left (Some m) a b kept s t hs u cut went clean r = absurd r
+line_had first (Some old) (Some mid) (Some new) (Some script) None (Some m) a b kept s t hs u cut went clean r = absurd cut
+line_had first (Some old) (Some mid) (Some new) (Some script) (Some l) (Some m) a b kept s t hs u cut went clean r = λ unmarked begun.
     let parts = unmarked_parts IsRunStep IsRunStep old mid new went (Passes-of IsRunStep mid new r.arrives) unmarked in
-    had_in first.home (state_of first) script (a.waiting ++ l) (b.waiting ++ m) cut.0 kept s t hs ht cut.1 cut.2 old mid new (u parts.0 begun) went r (clean parts.0 begun)
+    had_in (home_of first) (rid_of first) (state_of first) script (a.waiting ++ l) (b.waiting ++ m) cut.0 kept s t hs cut.1 cut.2 old mid new (u parts.0 begun) went r (clean parts.0 begun)
 
 -- ---- the start, and the end
 
@@ -102,13 +103,13 @@ pub had_none : (s : StoreState) (o : Option Content) (script : Option (List ℕ)
 had_none s None script = tt
 had_none s (Some c) None = tt
 had_none s (Some c) (Some script) = λ unmarked begun. record {
-  way = record { done = []; split = refl; answered = sym (append-nil c.now.answered); state = refl };
+  way = record { done = []; split = refl; answered = sym (append-nil c.now.answered); state = refl; rid = refl };
   start = inr (refl, refl);
-  replies = subst (λ (ms : List Moment). Chain (AtReplies (GoesOnBy s.home (state_of s) script c.now.answered c.now)) c.now ms) (sym (since_of IsRunStep c c (Arrives-same IsRunStep c c refl))) tt;
+  replies = subst (λ (ms : List Moment). Chain (AtReplies (GoesOnBy (home_of s) (state_of s) script c.now.answered c.now)) c.now ms) (sym (since_of IsRunStep c c (Arrives-same IsRunStep c c refl))) tt;
 }
 
-ended_in : (home : PoolId) (Z : MachineState) (script rest : List ℕ) (s : StoreState) (old new : Content) → rest ≡ [] → HadSoFar home Z script rest s old new → Arrives IsRunStep old new → HadItsFiles home Z script old new
-ended_in home Z script rest s old new none h went =
+ended_in : (home : PoolId) (given : ℕ) (Z : MachineState) (script rest : List ℕ) (s : StoreState) (old new : Content) → rest ≡ [] → HadSoFar home given Z script rest s old new → Arrives IsRunStep old new → HadItsFiles home Z script old new
+ended_in home given Z script rest s old new none h went =
     let u = h.way in
     let all : commands script ≡ u.done = u.split ∙ ap (λ (r : List ℕ). u.done ++ commands r) none ∙ append-nil u.done in
     record {
@@ -135,7 +136,7 @@ script_had first (Some old) (Some new) None left rest a b kept limit s u counted
 script_had first (Some old) (Some new) (Some script) None rest a b kept limit s u counted cut went = absurd counted
 script_had first (Some old) (Some new) (Some script) (Some l) None a b kept limit s u counted cut went = absurd cut
 script_had first (Some old) (Some new) (Some script) (Some l) (Some m) a b kept limit s u counted cut went = λ unmarked begun.
-    ended_in first.home (state_of first) script (a.waiting ++ l) s old new cut.0 (u unmarked begun) went
+    ended_in (home_of first) (rid_of first) (state_of first) script (a.waiting ++ l) s old new cut.0 (u unmarked begun) went
 
 -- ---- a run from its first call
 
@@ -154,12 +155,12 @@ had_from home script x y z h k had =
           (subst (λ (m : Moment). Chain (AtReplies P) m ys) h.arrives.last said));
     }
 
-pub run_had : (home : PoolId) (s : StoreState) (a b c : Option Content) (script : Option (List ℕ)) → s.home ≡ home → state_of s ≡ empty_state → s.queues ≡ [] → Tells Looked a b → Tells (Passes IsRunStep) b c → HadClean s b c script → HadFiles home a c script
-run_had home s None b c script at state none h k had = tt
-run_had home s (Some x) b None script at state none h k had = tt
-run_had home s (Some x) b (Some z) None at state none h k had = tt
-run_had home s (Some x) None (Some z) (Some script) at state none h k had = absurd h
-run_had home s (Some x) (Some y) (Some z) (Some script) at state none h k had = λ unmarked.
+pub run_had : (home : PoolId) (s : StoreState) (a b c : Option Content) (script : Option (List ℕ)) → IsNew home s → Tells Looked a b → Tells (Passes IsRunStep) b c → HadClean s b c script → HadFiles home a c script
+run_had home s None b c script new h k had = tt
+run_had home s (Some x) b None script new h k had = tt
+run_had home s (Some x) b (Some z) None new h k had = tt
+run_had home s (Some x) None (Some z) (Some script) new h k had = absurd h
+run_had home s (Some x) (Some y) (Some z) (Some script) new h k had = λ unmarked.
     had_from home script x y z h k
-    (subst (λ (p : PoolId). HadItsFiles p empty_state script y z) at
-    (subst (λ (S : MachineState). HadItsFiles s.home S script y z) state (had (unmarked_parts IsRunStep IsRunStep x y z h.arrives k unmarked).1 (clean_nothing s y.now.disk none))))
+    (subst (λ (p : PoolId). HadItsFiles p empty_state script y z) new.home
+    (subst (λ (S : MachineState). HadItsFiles (home_of s) S script y z) new.state (had (unmarked_parts IsRunStep IsRunStep x y z h.arrives k unmarked).1 (clean_nothing home s y.now.disk new))))

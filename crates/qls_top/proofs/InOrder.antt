@@ -17,7 +17,7 @@ use Rattle.qls_pool.specs.Next.{TakesNext}
 use Rattle.qls_pool.proofs.Disks.{found_id}
 use Rattle.qls_pool.proofs.Steps.{all_weaken, all_both, all_found}
 use Rattle.qls_log.proofs.Splits.{all_by_number}
-use Rattle.qls_store.specs.Moments.{first_epochs}
+use Rattle.qls_journals.specs.Moments.{first_epochs}
 use Rattle.qls_top.specs.Moments.{IsRunStep}
 use Rattle.qls_top.specs.Run.{TakesFilesInOrder}
 use Rattle.qls_pool.proofs.Moments.{since_is}

@@ -13,3 +13,4 @@ pub mod FirstMoments
 pub mod Working
 pub mod Replying
 pub mod Having
+pub mod Shown

@@ -11,10 +11,13 @@ use Rattle.qls_pool.proofs.Moments.{chain-append, chain_weaken, since_is, since_
 use Rattle.qls_log.specs.Leaving.{LeavesInOrder, WritesInOrder}
 use Rattle.qls_log.specs.Unwritten.{history_with}
 use Rattle.qls_store.specs.Stores.{StoreState, state_of, IsStore, Fits, IsClean}
-use Rattle.qls_store.specs.Homes.{Homes, homes_of, is_accepted, TakesFromHome}
-use Rattle.qls_store.specs.Moments.{IsStoreStep, AreWritten, LeavesDead, StaysWritten}
+use Rattle.qls_store.specs.Homes.{homes_of, is_accepted}
+use Rattle.qls_store.specs.Steps.{LeavesDead}
+use Rattle.qls_journals.specs.State.{JournalsState}
+use Rattle.qls_journals.specs.Homes.{Homes, TakesFromHome}
+use Rattle.qls_journals.specs.Moments.{IsStoreStep, AreWritten, StaysWritten}
 use Rattle.qls_top.specs.declared.fault.Fault.{Fault}
-use Rattle.qls_top.specs.Answers.{built_line, answer_line}
+use Rattle.qls_top.specs.Answers.{answer_line}
 use Rattle.qls_command.specs.Texts.{reply_text}
 use Rattle.qls_top.specs.Moments.{AddsAnswer, IsRunStep}
 use Rattle.qls_top.specs.Running.{RunsBuilt, UnderLine, IsUnderLine, WritesLine, LeavesLine, AnswersLine, AnswersInOrder, homes_by}
@@ -76,7 +79,11 @@ has_run was s None old mid fits r =
       fits = subst (λ (t : StoreState). Fits t mid.now.disk) (sym r.0) (subst (Fits was) (sym disk) fits);
       clean = λ unmarked clean. subst (λ (t : StoreState). IsClean t mid.now.disk) (sym r.0) (subst (IsClean was) (sym disk) clean);
     }
-has_run was s (Some c) old mid fits r = record { arrives = r.arrives; fits = r.fits; clean = r.clean }
+has_run was s (Some c) old mid fits r = record {
+  arrives = r.arrives;
+  fits = r.fits;
+  clean = λ unmarked clean. r.clean (subst (AllUnmarked old.now) (sym (since_of IsStoreStep old mid r.arrives)) unmarked) clean;
+}
 
 -- ---- at work
 
@@ -94,7 +101,7 @@ last_answered m (n ∷ ns) c = last_answered n ns c.1 ∙ c.0
 
 module _ (was : StoreState) (line : Option Command) where
   abbrev homes : Homes
-  homes = homes_by was.home (state_of was) (built_line line) (homes_of was)
+  homes = homes_by (state_of was) line (homes_of was)
 
   abbrev accepted : Bool
   accepted = is_accepted (answer_line (state_of was) line).1
@@ -129,14 +136,14 @@ module _ (was : StoreState) (line : Option Command) where
         (record { answered = at; pools = same_pools homes mid.now mid.now differ refl; still = λ e. refl })
         (record { answered = at; pools = same_pools homes mid.now said differ refl; still = λ e. refl }))
 
-    pub told_under : (a b c : Option Content) → IfSome a (OnDisk (Fits was)) → Tells (RunsBuilt was (built_line line) s) a b → Tells (Passes (TakesFromHome homes)) a b → (is_accepted answer ≡ false → b ≡ a)
+    pub told_under : (a b c : Option Content) → IfSome a (OnDisk (Fits was)) → Tells (RunsBuilt was line s) a b → Tells (Passes (TakesFromHome homes)) a b → (is_accepted answer ≡ false → b ≡ a)
         → Tells (Passes IsRunStep) b c → Tells (AddsAnswer (reply_text answer)) b c → Tells (UnderLine was line) a c
     told_under None None None fits r pools still k adds = tt
     told_under None None (Some z) fits r pools still k adds = absurd k
     told_under None (Some y) c fits r pools still k adds = absurd r
     told_under (Some x) None c fits r pools still k adds = absurd r
     told_under (Some x) (Some y) None fits r pools still k adds = absurd k
-    told_under (Some x) (Some y) (Some z) fits r pools still k adds = under_answered x y z (has_run was s (built_line line) x y fits r) pools (λ e. some_is (still e)) k adds
+    told_under (Some x) (Some y) (Some z) fits r pools still k adds = under_answered x y z (has_run was s line x y fits r) pools (λ e. some_is (still e)) k adds
       where
         some_is : Some y ≡ Some x → y ≡ x
         some_is e = cc
@@ -146,8 +153,8 @@ module _ (was : StoreState) (line : Option Command) where
 -- the writes of a command that ended well, and then its files are written so still
 abbrev pub WritesTo : StoreState → StoreState → Content → Content → Type 0
 WritesTo was s old mid =
-    (areas : List FreeArea) (h : History) → now h ≡ old.now → AreWritten areas h was
-    → WritesInOrder areas h (moments_since old mid) × AreWritten areas (history_with h (moments_since old mid)) s
+    (areas : List FreeArea) (h : History) → now h ≡ old.now → AreWritten areas h was.journals
+    → WritesInOrder areas h (moments_since old mid) × AreWritten areas (history_with h (moments_since old mid)) s.journals
 
 if_err : {X E : Type 0} (P : X → Type 0) (r : Result X E) → IsErr r → IfOk r P
 if_err {X} {E} P (Ok x) e = absurd (not_err x e)
@@ -157,12 +164,22 @@ if_err {X} {E} P (Ok x) e = absurd (not_err x e)
 if_err P (Err f) e = tt
 
 -- where the command failed
-pub told_writes_command : {X : Type 0} (got : Result X Fault) (after : X → StoreState) (r : Result StoreState Fault) (was : StoreState) (a b : Option Content) → IsErr r → Tells (StaysWritten got after was) a b → Tells (WritesLine r was) a b
+pub told_writes_command : {X : Type 0} (got : Result X Fault) (after : X → JournalsState) (r : Result StoreState Fault) (was : StoreState) (a b : Option Content) → IsErr r → Tells (StaysWritten got after was.journals) a b → Tells (WritesLine r was) a b
 told_writes_command got after r was None None e w = tt
 told_writes_command got after r was None (Some y) e w = absurd w
 told_writes_command got after r was (Some x) None e w = absurd w
 told_writes_command got after r was (Some x) (Some y) e w = λ h at written.
-    ((w [] h at written).0, if_err (λ s. AreWritten [] (history_with h (moments_since x y)) s) r e)
+    ((w [] h at written).0, if_err (λ s. AreWritten [] (history_with h (moments_since x y)) s.journals) r e)
+
+-- where no call was made
+pub none_leaves : (s : StoreState) (a : Option Content) → Tells (LeavesDead s) a a
+none_leaves s None = tt
+none_leaves s (Some c) = λ quiet unmarked clean. subst (λ (ms : List Moment). Chain LeavesInOrder c.now ms) (sym (since_none c c refl)) tt
+
+pub none_written_err : {X : Type 0} (r : Result X Fault) (after : X → JournalsState) (s : StoreState) (a : Option Content) → IsErr r → Tells (StaysWritten r after s.journals) a a
+none_written_err r after s None e = tt
+none_written_err r after s (Some c) e = λ areas h at written.
+    (subst (λ (ms : List Moment). WritesInOrder areas h ms) (sym (since_none c c refl)) tt, if_err (λ x. AreWritten areas (history_with h (moments_since c c)) (after x)) r e)
 
 pub told_answers_command : (was : StoreState) (a b : Option Content) → Tells (Passes IsStoreStep) a b → Tells (AnswersLine was) a b
 told_answers_command was None None h = tt
@@ -178,13 +195,13 @@ module _ (was s : StoreState) (line : Option Command) (bytes : List ℕ) where
       (leaves quiet (unmarked_front old.now (moments_since old mid) (moments_since mid new) (subst (AllUnmarked old.now) (since_split IsStoreStep IsRunStep old mid new r.arrives k) unmarked)) clean)
       (same_chain LeavesInOrder same_leaves mid.now (moments_since mid new) r.fits.pool.0 (answer_stays bytes mid new adds))
 
-  pub told_leaves : (a b c : Option Content) → IfSome a (OnDisk (Fits was)) → Tells (RunsBuilt was (built_line line) s) a b → Tells (LeavesDead was) a b → Tells (Passes IsRunStep) b c → Tells (AddsAnswer bytes) b c → Tells (LeavesLine was) a c
+  pub told_leaves : (a b c : Option Content) → IfSome a (OnDisk (Fits was)) → Tells (RunsBuilt was line s) a b → Tells (LeavesDead was) a b → Tells (Passes IsRunStep) b c → Tells (AddsAnswer bytes) b c → Tells (LeavesLine was) a c
   told_leaves None None None fits r leaves k adds = tt
   told_leaves None None (Some z) fits r leaves k adds = absurd k
   told_leaves None (Some y) c fits r leaves k adds = absurd r
   told_leaves (Some x) None c fits r leaves k adds = absurd r
   told_leaves (Some x) (Some y) None fits r leaves k adds = absurd k
-  told_leaves (Some x) (Some y) (Some z) fits r leaves k adds = leaves_answered x y z (has_run was s (built_line line) x y fits r) leaves k adds
+  told_leaves (Some x) (Some y) (Some z) fits r leaves k adds = leaves_answered x y z (has_run was s line x y fits r) leaves k adds
 
   module _ (stays : FilesStayWritten) (store : IsStore s) where
     writes_answered : (old mid new : Content) → HasRun was s old mid → WritesTo was s old mid → Passes IsRunStep mid new → AddsAnswer bytes mid new → WritesTo was s old new
@@ -196,27 +213,27 @@ module _ (was s : StoreState) (line : Option Command) (bytes : List ℕ) where
         let same : Chain SameDisk (now (history_with h xs)) ys = subst (λ (m : Moment). Chain SameDisk m ys) back (answer_stays bytes mid new adds) in
         let fits : Fits s (now (history_with h xs)).disk = subst (λ (m : Moment). Fits s m.disk) back r.fits in (
           subst (λ (ms : List Moment). WritesInOrder areas h ms) (sym split) (writes_then areas h xs ys (writes areas h at written).0 (same_writes areas (history_with h xs) ys fits.pool.0 same)),
-          subst (λ (ms : List Moment). AreWritten areas (history_with h ms) s) (sym split)
-              (subst (λ (k : History). AreWritten areas k s) (with_then h xs ys) (stays_written stays areas (history_with h xs) ys s store fits same (writes areas h at written).1)),
+          subst (λ (ms : List Moment). AreWritten areas (history_with h ms) s.journals) (sym split)
+              (subst (λ (k : History). AreWritten areas k s.journals) (with_then h xs ys) (stays_written stays areas (history_with h xs) ys s store fits same (writes areas h at written).1)),
         )
 
-    told_wrote : (a b c : Option Content) → IfSome a (OnDisk (Fits was)) → Tells (RunsBuilt was (built_line line) s) a b → Tells (WritesTo was s) a b → Tells (Passes IsRunStep) b c → Tells (AddsAnswer bytes) b c → Tells (WritesTo was s) a c
+    told_wrote : (a b c : Option Content) → IfSome a (OnDisk (Fits was)) → Tells (RunsBuilt was line s) a b → Tells (WritesTo was s) a b → Tells (Passes IsRunStep) b c → Tells (AddsAnswer bytes) b c → Tells (WritesTo was s) a c
     told_wrote None None None fits r writes k adds = tt
     told_wrote None None (Some z) fits r writes k adds = absurd k
     told_wrote None (Some y) c fits r writes k adds = absurd r
     told_wrote (Some x) None c fits r writes k adds = absurd r
     told_wrote (Some x) (Some y) None fits r writes k adds = absurd k
-    told_wrote (Some x) (Some y) (Some z) fits r writes k adds = writes_answered x y z (has_run was s (built_line line) x y fits r) writes k adds
+    told_wrote (Some x) (Some y) (Some z) fits r writes k adds = writes_answered x y z (has_run was s line x y fits r) writes k adds
 
     -- by the result: the new store, or an error of the answer
-    pub told_writes : (a b c : Option Content) → IfSome a (OnDisk (Fits was)) → Tells (RunsBuilt was (built_line line) s) a b → Tells (WritesTo was s) a b → Tells (Passes IsRunStep) b c → Tells (AddsAnswer bytes) b c → Tells (WritesLine (Ok s) was) a c
+    pub told_writes : (a b c : Option Content) → IfSome a (OnDisk (Fits was)) → Tells (RunsBuilt was line s) a b → Tells (WritesTo was s) a b → Tells (Passes IsRunStep) b c → Tells (AddsAnswer bytes) b c → Tells (WritesLine (Ok s) was) a c
     told_writes a b c fits r writes k adds = Tells-weaken (WritesTo was s) (WritesLine (Ok s) was) a c (told_wrote a b c fits r writes k adds) (λ x y w h at written. w [] h at written)
 
-    pub told_writes_err : (q : Result StoreState Fault) (a b c : Option Content) → IsErr q → IfSome a (OnDisk (Fits was)) → Tells (RunsBuilt was (built_line line) s) a b → Tells (WritesTo was s) a b → Tells (Passes IsRunStep) b c
+    pub told_writes_err : (q : Result StoreState Fault) (a b c : Option Content) → IsErr q → IfSome a (OnDisk (Fits was)) → Tells (RunsBuilt was line s) a b → Tells (WritesTo was s) a b → Tells (Passes IsRunStep) b c
         → Tells (AddsAnswer bytes) b c → Tells (WritesLine q was) a c
     told_writes_err q a b c e fits r writes k adds =
         Tells-weaken (WritesTo was s) (WritesLine q was) a c (told_wrote a b c fits r writes k adds)
-        (λ x y w h at written. ((w [] h at written).0, if_err (λ t. AreWritten [] (history_with h (moments_since x y)) t) q e))
+        (λ x y w h at written. ((w [] h at written).0, if_err (λ t. AreWritten [] (history_with h (moments_since x y)) t.journals) q e))
 
     module _ (alive : NothingDead) (reads : ReadsWritten) where
       answers_answered : (old mid new : Content) → HasRun was s old mid → WritesTo was s old mid → Passes IsRunStep mid new → AddsAnswer bytes mid new → AnswersLine was old new
@@ -232,10 +249,10 @@ module _ (was s : StoreState) (line : Option Command) (bytes : List ℕ) where
           (whole_answers alive reads stays s store (history_with h xs) ys (subst (λ (m : Moment). Fits s m.disk) back r.fits) (subst (λ (m : Moment). IsClean s m.disk) back (r.clean front clean))
           (subst (λ (m : Moment). Chain SameDisk m ys) back (answer_stays bytes mid new adds)) (writes [] h at written).1))
 
-      pub told_answers : (a b c : Option Content) → IfSome a (OnDisk (Fits was)) → Tells (RunsBuilt was (built_line line) s) a b → Tells (WritesTo was s) a b → Tells (Passes IsRunStep) b c → Tells (AddsAnswer bytes) b c → Tells (AnswersLine was) a c
+      pub told_answers : (a b c : Option Content) → IfSome a (OnDisk (Fits was)) → Tells (RunsBuilt was line s) a b → Tells (WritesTo was s) a b → Tells (Passes IsRunStep) b c → Tells (AddsAnswer bytes) b c → Tells (AnswersLine was) a c
       told_answers None None None fits r writes k adds = tt
       told_answers None None (Some z) fits r writes k adds = absurd k
       told_answers None (Some y) c fits r writes k adds = absurd r
       told_answers (Some x) None c fits r writes k adds = absurd r
       told_answers (Some x) (Some y) None fits r writes k adds = absurd k
-      told_answers (Some x) (Some y) (Some z) fits r writes k adds = answers_answered x y z (has_run was s (built_line line) x y fits r) writes k adds
+      told_answers (Some x) (Some y) (Some z) fits r writes k adds = answers_answered x y z (has_run was s line x y fits r) writes k adds

@@ -19,7 +19,7 @@ use Rattle.qls_model.specs.declared.machine.Reply.{Reply}
 use Rattle.qls_top.specs.declared.fault.Fault.{Fault}
 use Rattle.qls_top.specs.declared.fault.Fault.TheVariants as fault
 use Rattle.qls_command.specs.Texts.{reply_text}
-use Rattle.qls_top.specs.Answers.{answer_line, built_line, state_answered, answers_text}
+use Rattle.qls_top.specs.Answers.{answer_line, state_answered, answers_text}
 use Rattle.qls_top.specs.Cutting.{Cutter, kept_of_line, CutsTold, Counted, script_limit}
 use Rattle.qls_pool.specs.Moments.{Arrives, Passes, EndsIn}
 use Rattle.qls_meaning.specs.History.{last_of}
@@ -27,19 +27,19 @@ use Rattle.qls_pool.specs.Next.{Epochs, IsNextTaken, TakesNext}
 use Rattle.qls_top.specs.Moments.{AddsAnswer, AtReplies, Quietly, AnswersQuietly, IsRunStep, UnmarkedSince}
 use Rattle.qls_pool.specs.Serials.{TakesNone, serials_taken}
 use Rattle.qls_top.specs.Serials.{is_exact}
-use Rattle.qls_store.specs.Stores.{StoreState, state_of, IsStore, Fits, IsClean}
+use Rattle.qls_store.specs.Stores.{StoreState, state_of, home_of, rid_of, IsStore, Fits, IsClean}
 use Rattle.qls_log.specs.Leaving.{WritesInOrder}
 use Rattle.qls_log.specs.Unwritten.{history_with}
-use Rattle.qls_store.specs.Moments.{IsStoreStep, StaysQuiet, StaysWritten, AreWritten, first_epochs}
+use Rattle.qls_journals.specs.Moments.{IsStoreStep, StaysQuiet, StaysWritten, AreWritten, first_epochs}
 use Rattle.qls_top.specs.Held.{IsHeld}
-use Rattle.qls_top.specs.Running.{LineMeetsEnd, LineStops, RunsLine, RunsBuilt}
+use Rattle.qls_top.specs.Running.{LineMeetsEnd, LineMeetsAtOnce, LineStops, RunsLine, RunsBuilt, rid_after}
 use Rattle.qls_top.specs.Status.{status_of, IsOfLine}
-use Rattle.qls_top.specs.Run.{IsUnderWay, UnderWay, IsRun, EndsClean, StaysClean, MeetsEnd, EndsSpentIn, MayBegin, MayNotBegin, Starts, StartsOn, StartsWith, StaysAsItWas, refuses_status, refuses_start, status_of_result, is_exact_status, is_too_long, ReadsBytes, ReadBytes}
+use Rattle.qls_top.specs.Run.{rid_answered, IsUnderWay, UnderWay, IsRun, EndsClean, StaysClean, MeetsEnd, EndsSpentIn, MayBegin, MayNotBegin, Starts, StartsOn, StartsWith, StaysAsItWas, refuses_status, refuses_start, status_of_result, is_exact_status, is_too_long, ReadsBytes, ReadBytes}
 use Rattle.qls_pool.proofs.Came.{NoneComes, WasInUse, none_came, none_same}
 use Rattle.qls_pool.proofs.Steps.{all_weaken}
 use Rattle.qls_pool.proofs.Moments.{chain-append, chain_weaken, Arrives-same, Arrives-then, Arrives-acts, Arrives-passes, Passes-may, Passes-same, Passes-of, since_is, since_of}
 use Rattle.qls_top.proofs.Chains.{silent_arrives, silent_arrives_quietly, answers_nothing, unmarked_front, unmarked_parts}
-use Rattle.qls_top.proofs.Holding.{MeansItsState}
+use Rattle.qls_top.proofs.Holding.{MeansItsState, SaysItsRid}
 
 -- ---- the answer
 
@@ -139,7 +139,7 @@ answer_passes answer (Err f) mid new differ h = h
 pub record Commanded (was : StoreState) (asked : Option Command) (s : StoreState) (old new : Content) : Type 0 where
   pub arrives : Arrives IsStoreStep old new
   pub quiet : StaysQuiet old new
-  pub had : IsClean was old.now.disk → LineMeetsEnd was.home (state_of was) asked old.now.disk → ⊥
+  pub had : IsClean was old.now.disk → LineMeetsAtOnce (home_of was) (state_of was) asked old.now.disk → ⊥
   pub fits : Fits s new.now.disk
   pub clean : AllUnmarked old.now arrives.since → IsClean was old.now.disk → IsClean s new.now.disk
 
@@ -153,7 +153,13 @@ commanded was None s old new fits r =
       fits = subst (λ (t : StoreState). Fits t new.now.disk) (sym r.0) (subst (Fits was) (sym disk) fits);
       clean = λ unmarked clean. subst (λ (t : StoreState). IsClean t new.now.disk) (sym r.0) (subst (IsClean was) (sym disk) clean);
     }
-commanded was (Some c) s old new fits r = record { arrives = r.arrives; quiet = r.quiet; had = r.had; fits = r.fits; clean = r.clean }
+commanded was (Some c) s old new fits r = record {
+  arrives = r.arrives;
+  quiet = r.quiet;
+  had = r.had;
+  fits = r.fits;
+  clean = λ unmarked clean. r.clean (subst (AllUnmarked old.now) (sym (since_of IsStoreStep old new r.arrives)) unmarked) clean;
+}
 
 pub told_commanded : (was : StoreState) (asked : Option Command) (s : StoreState) (a b : Option Content) → IfSome a (OnDisk (Fits was)) → Tells (RunsBuilt was asked s) a b → Tells (Commanded was asked s) a b
 told_commanded was asked s None None fits r = tt
@@ -161,8 +167,9 @@ told_commanded was asked s None (Some y) fits r = absurd r
 told_commanded was asked s (Some x) None fits r = absurd r
 told_commanded was asked s (Some x) (Some y) fits r = commanded was asked s x y fits r
 
-module _ (was : StoreState) (line : Option Command) (s : StoreState) (answer : Reply) (stepped : (state_of s, answer) ≡ answer_line (state_of was) line) where
-  answered_in : (old mid new : Content) → Commanded was (built_line line) s old mid → Acts (on_answered (reply_text answer)) mid new → RunsLine was line s old new
+module _ (was : StoreState) (line : Option Command) (s : StoreState) (answer : Reply) (stepped : (state_of s, answer) ≡ answer_line (state_of was) line)
+    (ridden : rid_of s ≡ rid_after (state_of was) line (rid_of was)) where
+  answered_in : (old mid new : Content) → Commanded was line s old mid → Acts (on_answered (reply_text answer)) mid new → RunsLine was line s old new
   answered_in old mid new r acts =
       let now = ap (λ (c : Content). c.now) acts in
       let disk : new.now.disk ≡ mid.now.disk = ap (λ (m : Moment). m.disk) now in
@@ -170,6 +177,7 @@ module _ (was : StoreState) (line : Option Command) (s : StoreState) (answer : R
       Arrives-acts IsRunStep (on_answered (reply_text answer)) mid new (same_disk mid.now (on_answered (reply_text answer) mid.now) r.fits.pool.0 refl) acts in
       record {
         state = ap (λ p. p.0) stepped;
+        rid = ridden;
         arrives = Arrives-then IsRunStep old mid new (silent_arrives old mid r.arrives) one;
         quiet = λ q. subst IsQuiet (sym disk) (r.quiet q);
         last = chain-append (AtReplies (λ n. n ≡ new.now)) old.now r.arrives.since (on_answered (reply_text answer) mid.now ∷ [])
@@ -181,15 +189,15 @@ module _ (was : StoreState) (line : Option Command) (s : StoreState) (answer : R
       }
 
   -- by the result of the answer
-  ended_in : (r : Result (Unit {0}) Fault) (old mid new : Content) → Commanded was (built_line line) s old mid
+  ended_in : (r : Result (Unit {0}) Fault) (old mid new : Content) → Commanded was line s old mid
       → EndsIn (λ _. Acts (on_answered (reply_text answer))) (Passes IsRunStep) r mid new → EndsIn (λ _. RunsLine was line s) (Passes IsRunStep) r old new
   ended_in (Ok x) old mid new r h = answered_in old mid new r h
   ended_in (Err f) old mid new r h = Arrives-passes IsRunStep old mid new (silent_arrives old mid r.arrives) h
 
-  pub line_ended : (r : Result (Unit {0}) Fault) (old mid new : Option Content) → Tells (Commanded was (built_line line) s) old mid
+  pub line_ended : (r : Result (Unit {0}) Fault) (old mid new : Option Content) → Tells (Commanded was line s) old mid
       → Tells (EndsIn (λ _. Acts (on_answered (reply_text answer))) (Passes IsRunStep) r) mid new → Tells (EndsIn (λ _. RunsLine was line s) (Passes IsRunStep) r) old new
   line_ended r old mid new a b =
-      Tells-then (Commanded was (built_line line) s) (EndsIn (λ _. Acts (on_answered (reply_text answer))) (Passes IsRunStep) r) (EndsIn (λ _. RunsLine was line s) (Passes IsRunStep) r) old mid new a b (ended_in r)
+      Tells-then (Commanded was line s) (EndsIn (λ _. Acts (on_answered (reply_text answer))) (Passes IsRunStep) r) (EndsIn (λ _. RunsLine was line s) (Passes IsRunStep) r) old mid new a b (ended_in r)
 
 module _ (was : StoreState) (asked : Option Command) (s : StoreState) where
   quiet_in : (old mid new : Content) → Commanded was asked s old mid → AnswersQuietly mid new → AnswersQuietly old new
@@ -214,11 +222,11 @@ ends_passes done (Ok x) a b f h = Tells-weaken (done x) (Passes IsRunStep) a b h
 ends_passes done (Err e) a b f h = h
 
 -- a line that is none writes nothing
-pub none_written : (s : StoreState) (answer : Reply) (a : Option Content) → Tells (StaysWritten {X = StoreState × Reply} {E = Fault} (Ok (s, answer)) (λ r. r.0) s) a a
+pub none_written : (s : StoreState) (answer : Reply) (a : Option Content) → Tells (StaysWritten {X = StoreState × Reply} {E = Fault} (Ok (s, answer)) (λ r. r.0.journals) s.journals) a a
 none_written s answer None = tt
 none_written s answer (Some c) = λ areas h at written.
-    subst (λ (ms : List Moment). WritesInOrder areas h ms × AreWritten areas (history_with h ms) s) (sym (since_of IsStoreStep c c (Arrives-same IsStoreStep c c refl)))
-    (tt, subst (λ (since : List Moment). AreWritten areas (record h { since = since }) s) (sym (append-nil h.since)) written)
+    subst (λ (ms : List Moment). WritesInOrder areas h ms × AreWritten areas (history_with h ms) s.journals) (sym (since_of IsStoreStep c c (Arrives-same IsStoreStep c c refl)))
+    (tt, subst (λ (since : List Moment). AreWritten areas (record h { since = since }) s.journals) (sym (append-nil h.since)) written)
 
 -- ---- a line that was cut
 
@@ -249,15 +257,19 @@ pub state_append : (S : MachineState) (cs ds : List (Option Command)) → state_
 state_append S [] ds = refl
 state_append S (c ∷ cs) ds = state_append (answer_line S c).0 cs ds
 
+pub rid_append : (S : MachineState) (cs ds : List (Option Command)) (given : ℕ) → rid_answered S (cs ++ ds) given ≡ rid_answered (state_answered S cs) ds (rid_answered S cs given)
+rid_append S [] ds given = refl
+rid_append S (c ∷ cs) ds given = rid_append (answer_line S c).0 cs ds (rid_after S c given)
+
 -- what a cut leaves of the commands
 pub cut_split : (script before rest line kept : List ℕ) (done : List (Option Command)) → commands script ≡ done ++ commands before → lines before ≡ line ∷ lines rest → kept ≡ kept_of_line line
     → commands script ≡ done ++ command_of kept ∷ commands rest
 cut_split script before rest line kept done split cut is =
     split ∙ ap (λ cs. done ++ cs) (ap (map command_of) cut ∙ ap (λ (c : Option Command). c ∷ commands rest) (sym (ap command_of is ∙ kept_command line)))
 
-pub step_in : (home : PoolId) (Z : MachineState) (script before rest line kept : List ℕ) (s t : StoreState) (old mid new : Content) → s.home ≡ home → t.home ≡ home → lines before ≡ line ∷ lines rest → kept ≡ kept_of_line line
-    → IsUnderWay home Z script before s old mid → RunsLine s (command_of kept) t mid new → IsUnderWay home Z script rest t old new
-step_in home Z script before rest line kept s t old mid new hs ht cut is u r =
+pub step_in : (given : ℕ) (Z : MachineState) (script before rest line kept : List ℕ) (s t : StoreState) (old mid new : Content) → lines before ≡ line ∷ lines rest → kept ≡ kept_of_line line
+    → IsUnderWay given Z script before s old mid → RunsLine s (command_of kept) t mid new → IsUnderWay given Z script rest t old new
+step_in given Z script before rest line kept s t old mid new cut is u r =
     let c : Option Command = command_of kept in
     let step : answer_line (state_of s) c ≡ answer_line (state_answered Z u.done) c = ap (λ (S : MachineState). answer_line S c) u.state in
     record {
@@ -269,47 +281,48 @@ step_in home Z script before rest line kept s t old mid new hs ht cut is u r =
           ∙ ap (λ (a : List ℕ). old.now.answered ++ a)
           (ap (λ (a : List ℕ). answers_text Z u.done ++ a) (sym (append-nil (reply_text (answer_line (state_answered Z u.done) c).1))) ∙ sym (answers_append Z u.done (c ∷ [])));
       state = r.state ∙ ap (λ p. p.0) step ∙ sym (state_append Z u.done (c ∷ []));
+      rid = r.rid ∙ ap (λ (S : MachineState). rid_after S c (rid_of s)) u.state ∙ ap (rid_after (state_answered Z u.done) c) u.rid ∙ sym (rid_append Z u.done (c ∷ []) given);
     }
 
-pub line_run : (home : PoolId) (Z : MachineState) (old mid new : Option Content) (script left rest : Option (List ℕ)) (a b : Cutter) (kept : List ℕ) (s t : StoreState) → s.home ≡ home → t.home ≡ home
-    → UnderWay home Z old mid script a.waiting left s → CutsTold a left b rest kept true → Tells (RunsLine s (command_of kept) t) mid new → UnderWay home Z old new script b.waiting rest t
-line_run home Z None mid new script left rest a b kept s t hs ht u cut r = tt
-line_run home Z (Some old) mid None script left rest a b kept s t hs ht u cut r = tt
-line_run home Z (Some old) mid (Some new) None left rest a b kept s t hs ht u cut r = tt
-line_run home Z (Some old) mid (Some new) (Some script) left None a b kept s t hs ht u cut r = tt
-line_run home Z (Some old) None (Some new) (Some script) left (Some m) a b kept s t hs ht u cut r = absurd r
-line_run home Z (Some old) (Some mid) (Some new) (Some script) None (Some m) a b kept s t hs ht u cut r = absurd cut
-line_run home Z (Some old) (Some mid) (Some new) (Some script) (Some l) (Some m) a b kept s t hs ht u cut r =
-    step_in home Z script (a.waiting ++ l) (b.waiting ++ m) cut.0 kept s t old mid new hs ht cut.1 cut.2 u r
+pub line_run : (given : ℕ) (Z : MachineState) (old mid new : Option Content) (script left rest : Option (List ℕ)) (a b : Cutter) (kept : List ℕ) (s t : StoreState)
+    → UnderWay given Z old mid script a.waiting left s → CutsTold a left b rest kept true → Tells (RunsLine s (command_of kept) t) mid new → UnderWay given Z old new script b.waiting rest t
+line_run given Z None mid new script left rest a b kept s t u cut r = tt
+line_run given Z (Some old) mid None script left rest a b kept s t u cut r = tt
+line_run given Z (Some old) mid (Some new) None left rest a b kept s t u cut r = tt
+line_run given Z (Some old) mid (Some new) (Some script) left None a b kept s t u cut r = tt
+line_run given Z (Some old) None (Some new) (Some script) left (Some m) a b kept s t u cut r = absurd r
+line_run given Z (Some old) (Some mid) (Some new) (Some script) None (Some m) a b kept s t u cut r = absurd cut
+line_run given Z (Some old) (Some mid) (Some new) (Some script) (Some l) (Some m) a b kept s t u cut r =
+    step_in given Z script (a.waiting ++ l) (b.waiting ++ m) cut.0 kept s t old mid new cut.1 cut.2 u r
 
--- ---- a run that ends since no file is left
+-- ---- a run that ends since no file is left, or no record id of the prepared list
 
-module _ (first s : StoreState) (script before rest line kept : List ℕ) (hs : s.home ≡ first.home) (cut : lines before ≡ line ∷ lines rest) (is : kept ≡ kept_of_line line) where
-  ends_in : (old mid new : Content) → IsUnderWay first.home (state_of first) script before s old mid → Arrives IsStoreStep mid new → LineMeetsEnd s.home (state_of s) (built_line (command_of kept)) new.now.disk → MeetsEnd first.home (state_of first) script old new
+module _ (first s : StoreState) (script before rest line kept : List ℕ) (hs : home_of s ≡ home_of first) (cut : lines before ≡ line ∷ lines rest) (is : kept ≡ kept_of_line line) where
+  ends_in : (old mid new : Content) → IsUnderWay (rid_of first) (state_of first) script before s old mid → Arrives IsStoreStep mid new → LineMeetsEnd (home_of s) (state_of s) (command_of kept) new.now.disk → MeetsEnd (home_of first) (state_of first) script old new
   ends_in old mid new u arrives meets = record {
     done = u.done;
     next = command_of kept;
     rest = commands rest;
     split = cut_split script before rest line kept u.done u.split cut is;
     answered = answers_nothing mid new arrives ∙ u.answered;
-    meets = subst (λ (p : PoolId). LineMeetsEnd p (state_answered (state_of first) u.done) (built_line (command_of kept)) new.now.disk) hs
-        (subst (λ (S : MachineState). LineMeetsEnd s.home S (built_line (command_of kept)) new.now.disk) u.state meets);
+    meets = subst (λ (p : PoolId). LineMeetsEnd p (state_answered (state_of first) u.done) (command_of kept) new.now.disk) hs
+        (subst (λ (S : MachineState). LineMeetsEnd (home_of s) S (command_of kept) new.now.disk) u.state meets);
   }
 
-  spent_in : (old mid new : Content) → IsUnderWay first.home (state_of first) script before s old mid → Arrives IsRunStep old mid → StaysClean first s old mid → LineStops s (built_line (command_of kept)) mid new
-      → UnmarkedSince old new → IsClean first old.now.disk → MeetsEnd first.home (state_of first) script old new
+  spent_in : (old mid new : Content) → IsUnderWay (rid_of first) (state_of first) script before s old mid → Arrives IsRunStep old mid → StaysClean first s old mid → LineStops s (command_of kept) mid new
+      → UnmarkedSince old new → IsClean first old.now.disk → MeetsEnd (home_of first) (state_of first) script old new
   spent_in old mid new u went clean stops = λ unmarked begun.
-      let k = stopped (built_line (command_of kept)) mid new stops in
+      let k = stopped (command_of kept) mid new stops in
       let parts = unmarked_parts IsRunStep IsStoreStep old mid new went (Passes-of IsStoreStep mid new k.0) unmarked in
       ends_in old mid new u k.0 (k.1 parts.1 (clean parts.0 begun))
     where
-      stopped : (asked : Option Command) (x y : Content) → LineStops s asked x y → Arrives IsStoreStep x y × (UnmarkedSince x y → IsClean s x.now.disk → LineMeetsEnd s.home (state_of s) asked y.now.disk)
+      stopped : (asked : Option Command) (x y : Content) → LineStops s asked x y → Arrives IsStoreStep x y × (UnmarkedSince x y → IsClean s x.now.disk → LineMeetsEnd (home_of s) (state_of s) asked y.now.disk)
       stopped None x y stops = absurd stops
       stopped (Some c) x y stops = (stops.arrives, stops.meets)
 
-pub line_spent : (first s : StoreState) (old mid new : Option Content) (script left rest : Option (List ℕ)) (a b : Cutter) (kept : List ℕ) (limit : ℕ) → s.home ≡ first.home
-    → UnderWay first.home (state_of first) old mid script a.waiting left s → Counted limit script a.budget left (Ok true) → CutsTold a left b rest kept true → Tells (Arrives IsRunStep) old mid → Tells (StaysClean first s) old mid
-    → Tells (LineStops s (built_line (command_of kept))) mid new → EndsSpentIn first old new script
+pub line_spent : (first s : StoreState) (old mid new : Option Content) (script left rest : Option (List ℕ)) (a b : Cutter) (kept : List ℕ) (limit : ℕ) → home_of s ≡ home_of first
+    → UnderWay (rid_of first) (state_of first) old mid script a.waiting left s → Counted limit script a.budget left (Ok true) → CutsTold a left b rest kept true → Tells (Arrives IsRunStep) old mid → Tells (StaysClean first s) old mid
+    → Tells (LineStops s (command_of kept)) mid new → EndsSpentIn first old new script
 line_spent first s None mid new script left rest a b kept limit hs u counted cut went clean stops = tt
 line_spent first s (Some old) mid None script left rest a b kept limit hs u counted cut went clean stops = tt
 line_spent first s (Some old) mid (Some new) None left rest a b kept limit hs u counted cut went clean stops = tt
@@ -333,6 +346,7 @@ read_so_far f (Some l) (Some m) budget only h = subst (λ e. ReadBytes e l m) (s
     not_long fault.Draw only = refl
     not_long fault.Spent only = refl
     not_long fault.NotEmpty only = refl
+    not_long fault.Damaged only = refl
 
 -- ---- the end of the script
 
@@ -340,32 +354,33 @@ nothing_left : (a b : List ℕ) → a ++ b ≡ [] → b ≡ []
 nothing_left [] b e = e
 nothing_left (x ∷ a) b e = absurd (cc)
 
-end_in : (home : PoolId) (Z : MachineState) (script : List ℕ) (rest : List ℕ) (was s : StoreState) (old new : Content) → MeansItsState → rest ≡ [] → IsUnderWay home Z script rest s old new → IsStore s → Fits s new.now.disk
-    → StaysQuiet old new → StaysClean was s old new → IsClean was old.now.disk → IsRun Z script old new
-end_in home Z script rest was s old new means none u store fits quiet clean begun =
+end_in : (given : ℕ) (Z : MachineState) (script : List ℕ) (rest : List ℕ) (was s : StoreState) (old new : Content) → MeansItsState → SaysItsRid → rest ≡ [] → IsUnderWay given Z script rest s old new → IsStore s → Fits s new.now.disk
+    → StaysQuiet old new → StaysClean was s old new → IsClean was old.now.disk → IsRun Z given script old new
+end_in given Z script rest was s old new means says none u store fits quiet clean begun =
     let all : commands script ≡ u.done = u.split ∙ ap (λ (r : List ℕ). u.done ++ commands r) none ∙ append-nil u.done in
     record {
       answered = u.answered ∙ ap (λ cs. old.now.answered ++ answers_text Z cs) (sym all);
       stored = λ q unmarked. subst (λ (S : MachineState). IsHeld S new.now.disk) (u.state ∙ ap (state_answered Z) (sym all)) (means s new.now.disk store fits (clean unmarked begun) (quiet q));
+      rid = λ unmarked. says s new.now.disk store fits (clean unmarked begun) ∙ u.rid ∙ ap (λ cs. rid_answered Z cs given) (sym all);
     }
 
-pub script_ended : (old new : Option Content) (script left rest : Option (List ℕ)) (a b : Cutter) (kept : List ℕ) (was s : StoreState) → MeansItsState
-    → UnderWay was.home (state_of was) old new script a.waiting left s → IsStore s → IfSome new (OnDisk (Fits s)) → Tells StaysQuiet old new → Tells (StaysClean was s) old new → CutsTold a left b rest kept false → EndsClean was old new script rest
-script_ended None new script left rest a b kept was s means u store fits quiet clean cut = tt
-script_ended (Some old) None script left rest a b kept was s means u store fits quiet clean cut = tt
-script_ended (Some old) (Some new) None left rest a b kept was s means u store fits quiet clean cut = tt
-script_ended (Some old) (Some new) (Some script) left None a b kept was s means u store fits quiet clean cut = tt
-script_ended (Some old) (Some new) (Some script) None (Some m) a b kept was s means u store fits quiet clean cut = absurd cut
-script_ended (Some old) (Some new) (Some script) (Some l) (Some m) a b kept was s means u store fits quiet clean cut =
-    λ begun. (nothing_left b.waiting m cut.1, end_in was.home (state_of was) script (a.waiting ++ l) was s old new means cut.0 u store fits quiet clean begun)
+pub script_ended : (old new : Option Content) (script left rest : Option (List ℕ)) (a b : Cutter) (kept : List ℕ) (was s : StoreState) → MeansItsState → SaysItsRid
+    → UnderWay (rid_of was) (state_of was) old new script a.waiting left s → IsStore s → IfSome new (OnDisk (Fits s)) → Tells StaysQuiet old new → Tells (StaysClean was s) old new → CutsTold a left b rest kept false → EndsClean was old new script rest
+script_ended None new script left rest a b kept was s means says u store fits quiet clean cut = tt
+script_ended (Some old) None script left rest a b kept was s means says u store fits quiet clean cut = tt
+script_ended (Some old) (Some new) None left rest a b kept was s means says u store fits quiet clean cut = tt
+script_ended (Some old) (Some new) (Some script) left None a b kept was s means says u store fits quiet clean cut = tt
+script_ended (Some old) (Some new) (Some script) None (Some m) a b kept was s means says u store fits quiet clean cut = absurd cut
+script_ended (Some old) (Some new) (Some script) (Some l) (Some m) a b kept was s means says u store fits quiet clean cut =
+    λ begun. (nothing_left b.waiting m cut.1, end_in (rid_of was) (state_of was) script (a.waiting ++ l) was s old new means says cut.0 u store fits quiet clean begun)
 
 -- ---- the start
 
 -- nothing of the script is run yet
-pub begun : (s : StoreState) (o : Option Content) (script : Option (List ℕ)) → UnderWay s.home (state_of s) o o script [] script s
+pub begun : (s : StoreState) (o : Option Content) (script : Option (List ℕ)) → UnderWay (rid_of s) (state_of s) o o script [] script s
 begun s None script = tt
 begun s (Some c) None = tt
-begun s (Some c) (Some script) = record { done = []; split = refl; answered = sym (append-nil c.now.answered); state = refl }
+begun s (Some c) (Some script) = record { done = []; split = refl; answered = sym (append-nil c.now.answered); state = refl; rid = refl }
 
 -- ---- one more line
 
@@ -457,6 +472,7 @@ stays_in status r i old new h e some = let is = h.0 some in (ap refuses_status e
     refused (Err fault.TooLong) h = absurd (cc)
     refused (Err fault.Draw) h = absurd (cc)
     refused (Err fault.Spent) h = absurd (cc)
+    refused (Err fault.Damaged) h = absurd (cc)
 
 pub starts_with : (status : ℕ) (r : Result (Unit {0}) Fault) (old new : Option Content) → Starts old new r → status ≡ status_of_result r → StartsWith old new status
 starts_with status r None new h e = tt
@@ -471,6 +487,7 @@ status_same fault.TooLong = refl
 status_same fault.Draw = refl
 status_same fault.Spent = refl
 status_same fault.NotEmpty = refl
+status_same fault.Damaged = refl
 
 -- the statuses at which each number drawn is the serial of a file
 pub exact_status : (f : Fault) → is_exact_status (status_of f) ≡ is_exact {X = Unit {0}} (Err f)
@@ -481,6 +498,7 @@ exact_status fault.TooLong = refl
 exact_status fault.Draw = refl
 exact_status fault.Spent = refl
 exact_status fault.NotEmpty = refl
+exact_status fault.Damaged = refl
 
 -- status 9 comes of this fault alone
 pub spent_status : (f : Fault) (status : ℕ) → status ≡ status_of f → status ≡ 9 → f ≡ fault.Spent
@@ -491,6 +509,7 @@ spent_status fault.Memory status e nine = absurd (omega (arith, e, nine))
 spent_status fault.TooLong status e nine = absurd (omega (arith, e, nine))
 spent_status fault.Draw status e nine = absurd (omega (arith, e, nine))
 spent_status fault.NotEmpty status e nine = absurd (omega (arith, e, nine))
+spent_status fault.Damaged status e nine = absurd (omega (arith, e, nine))
 
 -- status 10 too
 pub not_begun_in : (f : Fault) (status : ℕ) → status ≡ status_of f → status ≡ 10 → f ≡ fault.NotEmpty
@@ -501,6 +520,7 @@ not_begun_in fault.Memory status e ten = absurd (omega (arith, e, ten))
 not_begun_in fault.TooLong status e ten = absurd (omega (arith, e, ten))
 not_begun_in fault.Draw status e ten = absurd (omega (arith, e, ten))
 not_begun_in fault.Spent status e ten = absurd (omega (arith, e, ten))
+not_begun_in fault.Damaged status e ten = absurd (omega (arith, e, ten))
 
 pub may_not_begin : (f : Fault) (old new : Option Content) (status : ℕ) → status ≡ status_of f → status ≡ 10 → Starts old new (Err f) → Tells (λ x y. Unit {0}) old new → MayNotBegin old
 may_not_begin f None new status e ten h t = tt

@@ -9,11 +9,11 @@ use Rattle.qls_meaning.specs.History.{AllUnmarked}
 use Rattle.qls_command.specs.Lines.{lines, commands, command_of}
 use Rattle.qls_model.specs.declared.machine.Reply.{Reply}
 use Rattle.qls_command.specs.Texts.{reply_text}
-use Rattle.qls_top.specs.Answers.{answer_line, built_line, state_answered, answers_text}
+use Rattle.qls_top.specs.Answers.{answer_line, state_answered, answers_text}
 use Rattle.qls_top.specs.Cutting.{Cutter, kept_of_line, CutsTold, Counted}
 use Rattle.qls_pool.specs.Moments.{Chain, Passes, Arrives}
-use Rattle.qls_store.specs.Stores.{StoreState, state_of, IsStore, IsClean}
-use Rattle.qls_store.specs.Moments.{IsStoreStep}
+use Rattle.qls_store.specs.Stores.{StoreState, state_of, home_of, rid_of, IsStore, IsClean}
+use Rattle.qls_journals.specs.Moments.{IsStoreStep}
 use Rattle.qls_top.specs.Moments.{AddsAnswer, AtReplies, IsRunStep, UnmarkedSince}
 use Rattle.qls_top.specs.Held.{IsHeld}
 use Rattle.qls_top.specs.Running.{RepliesLine}
@@ -22,7 +22,8 @@ use Rattle.qls_pool.proofs.Moments.{chain-append, chain_weaken, Arrives-same, Pa
 use Rattle.qls_top.proofs.Chains.{answers_nothing, unmarked_front, unmarked_parts}
 use Rattle.qls_top.proofs.Holding.{MeansItsState}
 use Rattle.qls_top.proofs.Lines.{Commanded, Quieted, answers_append, state_append, cut_split}
-use Rattle.qls_top.proofs.Beginning.{Looked, clean_nothing}
+use Rattle.qls_top.proofs.Beginning.{Looked}
+use Rattle.qls_top.proofs.Starting.{IsNew, clean_nothing}
 
 -- ---- a line
 
@@ -54,7 +55,7 @@ module _ (was s : StoreState) (line : Option Command) (answer : Reply) (means : 
   abbrev Says : Content → Moment → Type 0
   Says old n = (n.answered ≡ old.now.answered ++ reply_text after.1) × IsHeld after.0 n.disk
 
-  replied_in : (old mid new : Content) → Commanded was (built_line line) s old mid → Passes IsRunStep mid new → AddsAnswer (reply_text answer) mid new → RepliesLine was line old new
+  replied_in : (old mid new : Content) → Commanded was line s old mid → Passes IsRunStep mid new → AddsAnswer (reply_text answer) mid new → RepliesLine was line old new
   replied_in old mid new r k adds = λ quiet unmarked clean.
       let xs : List Moment = r.arrives.since in
       let ys : List Moment = moments_since mid new in
@@ -67,7 +68,7 @@ module _ (was s : StoreState) (line : Option Command) (answer : Reply) (means : 
       (chain-append (AtReplies (Says old)) old.now xs ys (silent_replies (Says old) old.now xs r.arrives.chain)
       (subst (λ (m : Moment). Chain (AtReplies (Says old)) m ys) r.arrives.last (answer_chain (Says old) (reply_text answer) mid new adds (said, here))))
 
-  pub told_replied : (a b c : Option Content) → Tells (Commanded was (built_line line) s) a b → Tells (Passes IsRunStep) b c → Tells (AddsAnswer (reply_text answer)) b c → Tells (RepliesLine was line) a c
+  pub told_replied : (a b c : Option Content) → Tells (Commanded was line s) a b → Tells (Passes IsRunStep) b c → Tells (AddsAnswer (reply_text answer)) b c → Tells (RepliesLine was line) a c
   told_replied None None None r k adds = tt
   told_replied None None (Some z) r k adds = absurd k
   told_replied None (Some y) c r k adds = absurd r
@@ -84,10 +85,10 @@ replies_none s (Some c) (Some script) = λ quiet unmarked clean.
     subst (λ (ms : List Moment). Chain (AtReplies (IsReplied (state_of s) script c.now.answered)) c.now ms) (sym (since_of IsRunStep c c (Arrives-same IsRunStep c c refl))) tt
 
 -- what a line's answer says is what a run's reply says
-reply_of : (home : PoolId) (S : MachineState) (script before rest line kept : List ℕ) (was : StoreState) (old mid : Content) (n : Moment) → lines before ≡ line ∷ lines rest → kept ≡ kept_of_line line
-    → IsUnderWay home S script before was old mid → n.answered ≡ mid.now.answered ++ reply_text (answer_line (state_of was) (command_of kept)).1
+reply_of : (given : ℕ) (S : MachineState) (script before rest line kept : List ℕ) (was : StoreState) (old mid : Content) (n : Moment) → lines before ≡ line ∷ lines rest → kept ≡ kept_of_line line
+    → IsUnderWay given S script before was old mid → n.answered ≡ mid.now.answered ++ reply_text (answer_line (state_of was) (command_of kept)).1
     → IsHeld (answer_line (state_of was) (command_of kept)).0 n.disk → IsReplied S script old.now.answered n
-reply_of home S script before rest line kept was old mid n cut is u said holds =
+reply_of given S script before rest line kept was old mid n cut is u said holds =
     let c : Option Command = command_of kept in
     let step : answer_line (state_of was) c ≡ answer_line (state_answered S u.done) c = ap (λ (T : MachineState). answer_line T c) u.state in
     let text : List ℕ = reply_text (answer_line (state_answered S u.done) c).1 in
@@ -111,9 +112,9 @@ module _ (first was : StoreState) (script before rest line kept : List ℕ) (cut
   abbrev Said : Content → Moment → Type 0
   Said y n = (n.answered ≡ y.now.answered ++ reply_text (answer_line (state_of was) (command_of kept)).1) × IsHeld (answer_line (state_of was) (command_of kept)).0 n.disk
 
-  replies_in : (x y z : Content) → IsUnderWay first.home (state_of first) script before was x y → Arrives IsRunStep x y → Quieted x y → StaysClean first was x y
-      → (IsQuiet x.now.disk → UnmarkedSince x y → IsClean first x.now.disk → RepliesIn first.home (state_of first) script x y) → Passes IsRunStep y z → RepliesLine was (command_of kept) y z
-      → IsQuiet x.now.disk → UnmarkedSince x z → IsClean first x.now.disk → RepliesIn first.home (state_of first) script x z
+  replies_in : (x y z : Content) → IsUnderWay (rid_of first) (state_of first) script before was x y → Arrives IsRunStep x y → Quieted x y → StaysClean first was x y
+      → (IsQuiet x.now.disk → UnmarkedSince x y → IsClean first x.now.disk → RepliesIn (home_of first) (state_of first) script x y) → Passes IsRunStep y z → RepliesLine was (command_of kept) y z
+      → IsQuiet x.now.disk → UnmarkedSince x z → IsClean first x.now.disk → RepliesIn (home_of first) (state_of first) script x z
   replies_in x y z u h q clean so_far k l = λ quiet unmarked begun.
       let P : Moment → Type 0 = IsReplied (state_of first) script x.now.answered in
       let xs : List Moment = h.since in
@@ -125,10 +126,10 @@ module _ (first was : StoreState) (script before rest line kept : List ℕ) (cut
       (chain-append (AtReplies P) x.now xs ys (subst (λ (ms : List Moment). Chain (AtReplies P) x.now ms) (since_of IsRunStep x y h) (so_far quiet parts.0 begun))
       (subst (λ (m : Moment). Chain (AtReplies P) m ys) h.last
       (chain_weaken (AtReplies (Said y)) (AtReplies P)
-      (at_replies (Said y) P (λ n p. reply_of first.home (state_of first) script before rest line kept was x y n cut is u p.0 p.1)) y.now ys said)))
+      (at_replies (Said y) P (λ n p. reply_of (rid_of first) (state_of first) script before rest line kept was x y n cut is u p.0 p.1)) y.now ys said)))
 
 pub line_replies : (first was : StoreState) (old mid new : Option Content) (script left rest : Option (List ℕ)) (a b : Cutter) (kept : List ℕ) (limit : ℕ)
-    → UnderWay first.home (state_of first) old mid script a.waiting left was → Counted limit script a.budget left (Ok true) → CutsTold a left b rest kept true → Tells (Arrives IsRunStep) old mid → Tells Quieted old mid
+    → UnderWay (rid_of first) (state_of first) old mid script a.waiting left was → Counted limit script a.budget left (Ok true) → CutsTold a left b rest kept true → Tells (Arrives IsRunStep) old mid → Tells Quieted old mid
     → Tells (StaysClean first was) old mid → RepliesClean first old mid script → Tells (Passes IsRunStep) mid new → Tells (RepliesLine was (command_of kept)) mid new → RepliesClean first old new script
 line_replies first was None mid new script left rest a b kept limit u counted cut h q clean so_far k l = tt
 line_replies first was (Some x) mid None script left rest a b kept limit u counted cut h q clean so_far k l = tt
@@ -161,15 +162,15 @@ replies_from home S script x y z h k so_far = λ quiet unmarked.
     same_chain : (P : Moment → Type 0) (m : Moment) (ms : List Moment) → ((n : ℕ) × (ms ≡ replicate n m)) → Chain (AtReplies P) m ms
     same_chain P m ms (n, e) = subst (λ (ns : List Moment). Chain (AtReplies P) m ns) (sym e) (again_chain P m n)
 
-pub run_replies : (home : PoolId) (s : StoreState) (a b c : Option Content) (script : Option (List ℕ)) → s.home ≡ home → state_of s ≡ empty_state → s.queues ≡ [] → Tells Looked a b → Tells (Passes IsRunStep) b c
+pub run_replies : (home : PoolId) (s : StoreState) (a b c : Option Content) (script : Option (List ℕ)) → IsNew home s → Tells Looked a b → Tells (Passes IsRunStep) b c
     → RepliesClean s b c script → RepliesStored home a c script
-run_replies home s None b c script at state none h k r = tt
-run_replies home s (Some x) b None script at state none h k r = tt
-run_replies home s (Some x) b (Some z) None at state none h k r = tt
-run_replies home s (Some x) None (Some z) (Some script) at state none h k r = absurd h
-run_replies home s (Some x) (Some y) (Some z) (Some script) at state none h k r =
+run_replies home s None b c script new h k r = tt
+run_replies home s (Some x) b None script new h k r = tt
+run_replies home s (Some x) b (Some z) None new h k r = tt
+run_replies home s (Some x) None (Some z) (Some script) new h k r = absurd h
+run_replies home s (Some x) (Some y) (Some z) (Some script) new h k r =
     replies_from home empty_state script x y z h k
-    (λ quiet unmarked. subst (λ (p : PoolId). RepliesIn p empty_state script y z) at (subst (λ (S : MachineState). RepliesIn s.home S script y z) state (r quiet unmarked (clean_nothing s y.now.disk none))))
+    (λ quiet unmarked. subst (λ (p : PoolId). RepliesIn p empty_state script y z) new.home (subst (λ (S : MachineState). RepliesIn (home_of s) S script y z) new.state (r quiet unmarked (clean_nothing home s y.now.disk new))))
 
 -- only the scan was made
 pub looked_replies : (home : PoolId) (a b : Option Content) (script : Option (List ℕ)) → Tells Looked a b → RepliesStored home a b script

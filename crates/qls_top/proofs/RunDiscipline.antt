@@ -9,7 +9,7 @@ use Rattle.qls_pool.proofs.Moments.{since_of, Passes-of, Arrives-then, Arrives-s
 use Rattle.qls_log.specs.Leaving.{LeavesInOrder, WritesInOrder}
 use Rattle.qls_log.specs.Unwritten.{history_with}
 use Rattle.qls_store.specs.Stores.{StoreState}
-use Rattle.qls_store.specs.Moments.{AreWritten, StaysQuiet}
+use Rattle.qls_journals.specs.Moments.{AreWritten, StaysQuiet}
 use Rattle.qls_top.specs.declared.fault.Fault.{Fault}
 use Rattle.qls_top.specs.Moments.{IsRunStep, UnmarkedSince}
 use Rattle.qls_top.specs.Running.{RunsLine, WritesLine, LeavesLine, AnswersLine, AnswersInOrder}
@@ -22,7 +22,7 @@ use Rattle.qls_top.proofs.LineDiscipline.{since_none, since_split, now_after, ch
 
 -- where the files of the first store were written, those of this one are
 abbrev pub KeepsWritten : StoreState → StoreState → Content → Content → Type 0
-KeepsWritten first s x y = (h : History) → now h ≡ x.now → AreWritten [] h first → AreWritten [] (history_with h (moments_since x y)) s
+KeepsWritten first s x y = (h : History) → now h ≡ x.now → AreWritten [] h first.journals → AreWritten [] (history_with h (moments_since x y)) s.journals
 
 pub record KeptSoFar (first s : StoreState) (x y : Content) : Type 0 where
   pub arrives : Arrives IsRunStep x y
@@ -40,7 +40,7 @@ kept_at_first s c =
       arrives = Arrives-same IsRunStep c c refl;
       quiet = λ q. q;
       clean = λ unmarked clean. clean;
-      written = λ h at written. subst (λ (ms : List Moment). AreWritten [] (history_with h ms) s) none (subst (λ (k : History). AreWritten [] k s) (sym (with_none h)) written);
+      written = λ h at written. subst (λ (ms : List Moment). AreWritten [] (history_with h ms) s.journals) none (subst (λ (k : History). AreWritten [] k s.journals) (sym (with_none h)) written);
       writes = λ h at written. subst (λ (ms : List Moment). WritesInOrder [] h ms) none tt;
       leaves = λ quiet unmarked clean. subst (λ (ms : List Moment). Chain LeavesInOrder c.now ms) none tt;
       answers = λ h at written quiet unmarked clean. subst (λ (ms : List Moment). AnswersInOrder h ms) none tt;
@@ -104,8 +104,8 @@ module _ (first was : StoreState) where
             let parts : UnmarkedSince x y × UnmarkedSince y z = unmarked_parts IsRunStep IsRunStep x y z h.arrives k unmarked in
             r.clean (subst (AllUnmarked y.now) (since_of IsRunStep y z r.arrives) parts.1) (h.clean parts.0 begun);
         written = λ j at written.
-            subst (λ (ms : List Moment). AreWritten [] (history_with j ms) s) (sym (since_split IsRunStep IsRunStep x y z h.arrives k))
-            (subst (λ (i : History). AreWritten [] i s) (with_then j xs ys) (w (history_with j xs) (now_after IsRunStep x y j h.arrives at) (h.written j at written)).1);
+            subst (λ (ms : List Moment). AreWritten [] (history_with j ms) s.journals) (sym (since_split IsRunStep IsRunStep x y z h.arrives k))
+            (subst (λ (i : History). AreWritten [] i s.journals) (with_then j xs ys) (w (history_with j xs) (now_after IsRunStep x y j h.arrives at) (h.written j at written)).1);
         writes = writes_on (Ok s) x y z h k w;
         leaves = leaves_on x y z h k l;
         answers = answers_on x y z h k n;

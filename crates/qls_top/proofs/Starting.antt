@@ -1,10 +1,13 @@
 -- The start of a run: what the scan says of the site, and which sites can't be started on.
-use Rattle.std.proofs.Common.{◌≡◌, ℕ, Bool, true, false, cond, not, ◌==◌, ◌&&◌, ◌<◌, ◌^◌, max, nat_le, nat_lt, List, [], ◌∷◌, ◌++◌, map, length, Some, Result, Ok, Err, refl, sym, ap, ◌∙◌, subst, arith}
+use Rattle.std.proofs.Common.{◌≡◌, ℕ, Bool, true, false, cond, not, ◌==◌, ◌&&◌, ◌<◌, ◌^◌, max, nat_le, nat_lt, List, [], ◌∷◌, ◌++◌, map, length, None, Some, Result, Ok, Err, refl, sym, ap, ◌∙◌, subst, arith}
 use Rattle.std.specs.List.{filter, AllByRecursion}
 use Rattle.std.proofs.lemmas.Bool.{and_parts, eqb-true, leb-true}
 use Rattle.std.proofs.lemmas.Bool.Decides.{nat_tests}
 use Rattle.qls_model.specs.Bytes.{same, comes_before}
 use Rattle.qls_filehdr.specs.declared.JournalKind.TheVariants.{Queue}
+use Rattle.qls_filehdr.specs.declared.JournalKind.TheVariants as kind
+use Rattle.qls_model.specs.declared.machine.PoolId.{PoolId}
+use Rattle.qls_model.specs.Machine.{empty_state}
 use Rattle.qls_model.specs.Limits.{file_size, is_partition, is_kib}
 use Rattle.qls_shape.specs.Claims.{claim, each, of_file, ◌>>◌, ◌>>=◌}
 use Rattle.qls_site.specs.declared.site.Place.{Place}
@@ -20,7 +23,9 @@ use Rattle.qls_meaning.specs.Kept.{Differ, ids_of}
 use Rattle.qls_meaning.specs.Spent.{greatest_id, is_pool_place}
 use Rattle.qls_filehdr.specs.Limits.{is_counter}
 use Rattle.qls_queue.specs.Live.{LiveState, QueueThere}
-use Rattle.qls_store.specs.Stores.{StoreState, Fits}
+use Rattle.qls_queue.specs.Releasing.{IsQueueClean}
+use Rattle.qls_prepared.specs.Lists.{PreparedState, ListThere, IsListClean}
+use Rattle.qls_store.specs.Stores.{StoreState, state_of, home_of, rid_of, Fits, IsClean}
 use Rattle.qls_pool.specs.Files.{IsListingOf, IsSized, IsWholePool, FitsPlace, is_at, is_listed_empty}
 use Rattle.qls_scan.specs.Found.{IsFound, IsFirstDamage, listed_as, greatest, files_of}
 use Rattle.qls_scan.specs.declared.answers.Found.{Found}
@@ -199,7 +204,32 @@ listing_of d found rise is unused =
       empties = ap (filter is_listed_empty) is.empties ∙ listed_empties d;
     }
 
--- ---- a store without a queue fits it
+-- ---- a store without a queue and without a list is clean, and fits it
+
+-- the list without a file
+abbrev pub no_list : PoolId → PreparedState
+no_list home = record { home = home; log = None; entries = []; held = []; ended = false }
+
+-- a store as it is made
+pub record IsNew (default : PoolId) (s : StoreState) : Type 0 where
+  pub home : home_of s ≡ default
+  pub state : state_of s ≡ empty_state
+  pub queues : s.journals.queues ≡ []
+  pub list : s.journals.list ≡ no_list default
+  pub rid : rid_of s ≡ 0
+
+pub new_is : (default : PoolId) (s : StoreState) → home_of s ≡ default → state_of s ≡ empty_state → s.journals.queues ≡ [] → s.journals.list ≡ no_list default → rid_of s ≡ 0 → IsNew default s
+new_is default s home state queues list rid = record { home = home; state = state; queues = queues; list = list; rid = rid }
+
+pub clean_nothing : (default : PoolId) (s : StoreState) (d : Disk) → IsNew default s → IsClean s d
+clean_nothing default s d new = record {
+  queues = subst (λ (qs : List LiveState). AllByRecursion (λ q. IsQueueClean q d) qs) (sym new.queues) tt;
+  list = subst (λ (p : PreparedState). IsListClean p d) (sym new.list) (record { whole = (refl, refl); alive = tt });
+}
+
+-- no journal has a file
+no_files : (default : PoolId) (d : Disk) → in_use (full d) ≡ [] → ListThere (no_list default) d
+no_files default d none = ap (λ (fs : List ImageFile). (journal (map headed fs) kind.List []).files) none
 
 abbrev InLimits : Place → Type 0
 InLimits InUse = Unit {0}
@@ -257,12 +287,13 @@ none_used (g ∷ d) id f none h used =
     here true unused rest e = cc
     here false unused rest e = rest e
 
-pub fits_unused : (s : StoreState) (d : Disk) → IsWholePool s.pool d → s.pool.greatest < 2 ^ 62 → MayBegin (full d) → s.queues ≡ [] → Fits s d
-fits_unused s d whole limit may none = record {
+pub fits_unused : (default : PoolId) (s : StoreState) (d : Disk) → IsWholePool s.journals.pool d → s.journals.pool.greatest < 2 ^ 62 → MayBegin (full d) → IsNew default s → Fits s d
+fits_unused default s d whole limit may new = record {
   pool = whole;
   limit = limit;
   fit = λ part kib id has. found_within part kib id d (pools_of d may.pools) (and_parts (is_at part kib (file_of id d)) true (sym (whole.1.files part kib id) ∙ has)).0;
   ids = ids_above d may.ids;
-  queues = subst (λ (qs : List LiveState). AllByRecursion (λ q. QueueThere q d) qs) (sym none) tt;
+  queues = subst (λ (qs : List LiveState). AllByRecursion (λ q. QueueThere q d) qs) (sym new.queues) tt;
+  list = subst (λ (p : PreparedState). ListThere p d) (sym new.list) (no_files default d may.unused);
   own = λ id f there used. absurd (none_used d id f may.unused there used);
 }

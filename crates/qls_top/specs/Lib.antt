@@ -8,3 +8,4 @@ pub mod Serials
 pub mod Causes
 pub mod Running
 pub mod Run
+pub mod Shows

@@ -6,7 +6,7 @@ use Rattle.qls_meaning.specs.History.{AllUnmarked}
 use Rattle.qls_pool.specs.Discipline.{IsPoolStep}
 use Rattle.qls_pool.specs.Moments.{Passes}
 use Rattle.qls_pool.specs.Next.{IsNextTaken, HeadersStay}
-use Rattle.qls_store.specs.Moments.{first_epochs}
+use Rattle.qls_journals.specs.Moments.{first_epochs}
 use Rattle.qls_pool.specs.Files.{IdsDiffer}
 
 -- where bytes were answered nothing is pending

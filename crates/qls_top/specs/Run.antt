@@ -15,81 +15,111 @@ use Rattle.qls_command.specs.Lines.{commands}
 use Rattle.qls_top.specs.declared.fault.Fault.{Fault}
 use Rattle.qls_top.specs.declared.fault.Fault.TheVariants as fault
 use Rattle.qls_top.specs.declared.words.Job.{Job}
-use Rattle.qls_top.specs.declared.words.Job.TheVariants.{Run}
-use Rattle.qls_top.specs.Answers.{built_line, answer_line, state_answered, answers_text}
+use Rattle.qls_top.specs.declared.words.Job.TheVariants.{Run, Show}
+use Rattle.qls_top.specs.Answers.{answer_line, state_answered, answers_text}
 use Rattle.qls_top.specs.Cutting.{script_limit}
-use Rattle.qls_store.specs.Stores.{StoreState, state_of, IsClean}
-use Rattle.qls_store.specs.Homes.{Homes, no_homes, homes_of, is_accepted, TakesFromHome}
+use Rattle.qls_store.specs.Stores.{StoreState, state_of, home_of, rid_of, IsClean}
+use Rattle.qls_journals.specs.Homes.{Homes, no_homes, TakesFromHome}
+use Rattle.qls_store.specs.Homes.{homes_of, is_accepted}
 use Rattle.qls_log.specs.Leaving.{LeavesInOrder, WritesInOrder}
 use Rattle.qls_top.specs.Held.{IsHeld}
 use Rattle.qls_top.specs.Moments.{AtReplies, UnmarkedSince}
-use Rattle.qls_top.specs.Running.{LineMeetsEnd, homes_by, AnswersInOrder}
+use Rattle.qls_top.specs.Running.{LineMeetsEnd, LineMeetsAtOnce, homes_by, rid_after, AnswersInOrder}
 use Rattle.qls_meaning.specs.History.{History, now}
 use Rattle.qls_meaning.specs.Orderly.{IsOrderly}
-use Rattle.qls_store.specs.Moments.{AreWritten}
+use Rattle.qls_meaning.specs.Spent.{list_rid}
+use Rattle.qls_journals.specs.Moments.{AreWritten}
+
+-- ---- by the job that the words ask for
+
+-- it is a run with this default pool
+abbrev pub OfRun : Option Job → (PoolId → Type 0) → Type 0
+OfRun None P = ⊥
+OfRun (Some (Run home)) P = P home
+OfRun (Some Show) P = ⊥
+
+-- where it is one
+abbrev pub IfRun : Option Job → (PoolId → Type 0) → Type 0
+IfRun None P = Unit {0}
+IfRun (Some (Run home)) P = P home
+IfRun (Some Show) P = Unit {0}
+
+-- it is a show
+abbrev pub OfShow : Option Job → Type 0 → Type 0
+OfShow None P = ⊥
+OfShow (Some (Run home)) P = ⊥
+OfShow (Some Show) P = P
+
+-- where it is one
+abbrev pub IfShow : Option Job → Type 0 → Type 0
+IfShow None P = Unit {0}
+IfShow (Some (Run home)) P = Unit {0}
+IfShow (Some Show) P = P
 
 -- ---- a script that was run to its end
 
+-- the record id of the prepared list that is in force after these lines: each prepare, and each commit of an open transaction, gives one
+abbrev pub rid_answered : MachineState → List (Option Command) → ℕ → ℕ
+rid_answered S [] rid = rid
+rid_answered S (c ∷ cs) rid = rid_answered (answer_line S c).0 cs (rid_after S c rid)
+
 -- From the state S on every line is answered. Where nothing was pending at the start and the files that came into use were unmarked,
--- the disk holds the machine's state after all lines
-pub record IsRun (S : MachineState) (script : List ℕ) (old new : Content) : Type 0 where
+-- the disk holds the machine's state after all lines, and the list's record id is the one that they give
+pub record IsRun (S : MachineState) (given : ℕ) (script : List ℕ) (old new : Content) : Type 0 where
   pub answered : new.now.answered ≡ old.now.answered ++ answers_text S (commands script)
   pub stored : IsQuiet old.now.disk → UnmarkedSince old new → IsHeld (state_answered S (commands script)) new.now.disk
+  pub rid : UnmarkedSince old new → list_rid new.now.disk ≡ rid_answered S (commands script) given
 
 -- where site and source tell: the source was read to its end, and all of the script was run
-abbrev pub EndsFrom : PoolId → MachineState → Option Content → Option Content → Option (List ℕ) → Option (List ℕ) → Type 0
-EndsFrom home S (Some old) (Some new) (Some script) (Some rest) = (rest ≡ []) × IsRun S script old new
-EndsFrom home S None new script rest = Unit {0}
-EndsFrom home S (Some old) None script rest = Unit {0}
-EndsFrom home S (Some old) (Some new) None rest = Unit {0}
-EndsFrom home S (Some old) (Some new) (Some script) None = Unit {0}
+abbrev pub EndsFrom : MachineState → ℕ → Option Content → Option Content → Option (List ℕ) → Option (List ℕ) → Type 0
+EndsFrom S rid (Some old) (Some new) (Some script) (Some rest) = (rest ≡ []) × IsRun S rid script old new
+EndsFrom S rid None new script rest = Unit {0}
+EndsFrom S rid (Some old) None script rest = Unit {0}
+EndsFrom S rid (Some old) (Some new) None rest = Unit {0}
+EndsFrom S rid (Some old) (Some new) (Some script) None = Unit {0}
 
 abbrev pub RunsToEnd : PoolId → Option Content → Option Content → Option (List ℕ) → Option (List ℕ) → Type 0
-RunsToEnd home old new script rest = EndsFrom home empty_state old new script rest
+RunsToEnd home old new script rest = EndsFrom empty_state 0 old new script rest
 
 -- a store that was clean
 abbrev pub EndsClean : StoreState → Option Content → Option Content → Option (List ℕ) → Option (List ℕ) → Type 0
-EndsClean s (Some old) (Some new) (Some script) (Some rest) = IsClean s old.now.disk → (rest ≡ []) × IsRun (state_of s) script old new
+EndsClean s (Some old) (Some new) (Some script) (Some rest) = IsClean s old.now.disk → (rest ≡ []) × IsRun (state_of s) (rid_of s) script old new
 EndsClean s None new script rest = Unit {0}
 EndsClean s (Some old) None script rest = Unit {0}
 EndsClean s (Some old) (Some new) None rest = Unit {0}
 EndsClean s (Some old) (Some new) (Some script) None = Unit {0}
 
--- the clause for the job that the words ask for
-abbrev pub ForJob : Option Job → (PoolId → Type 0) → Type 0
-ForJob None P = ⊥
-ForJob (Some (Run home)) P = P home
-
 -- ---- a script in the middle
 
--- some of its commands were run: these are their answers, and this is the machine's state after them
-pub record IsUnderWay (home : PoolId) (S : MachineState) (script rest : List ℕ) (s : StoreState) (old new : Content) : Type 0 where
+-- some of its commands were run: these are their answers, and this is the machine's state after them, and the list's record id
+pub record IsUnderWay (given : ℕ) (S : MachineState) (script rest : List ℕ) (s : StoreState) (old new : Content) : Type 0 where
   pub done : List (Option Command)
   pub split : commands script ≡ done ++ commands rest
   pub answered : new.now.answered ≡ old.now.answered ++ answers_text S done
   pub state : state_of s ≡ state_answered S done
+  pub rid : rid_of s ≡ rid_answered S done given
 
-abbrev pub UnderWay : PoolId → MachineState → Option Content → Option Content → Option (List ℕ) → List ℕ → Option (List ℕ) → StoreState → Type 0
-UnderWay home S (Some old) (Some new) (Some script) waiting (Some left) s = IsUnderWay home S script (waiting ++ left) s old new
-UnderWay home S None new script waiting left s = Unit {0}
-UnderWay home S (Some old) None script waiting left s = Unit {0}
-UnderWay home S (Some old) (Some new) None waiting left s = Unit {0}
-UnderWay home S (Some old) (Some new) (Some script) waiting None s = Unit {0}
+abbrev pub UnderWay : ℕ → MachineState → Option Content → Option Content → Option (List ℕ) → List ℕ → Option (List ℕ) → StoreState → Type 0
+UnderWay given S (Some old) (Some new) (Some script) waiting (Some left) s = IsUnderWay given S script (waiting ++ left) s old new
+UnderWay given S None new script waiting left s = Unit {0}
+UnderWay given S (Some old) None script waiting left s = Unit {0}
+UnderWay given S (Some old) (Some new) None waiting left s = Unit {0}
+UnderWay given S (Some old) (Some new) (Some script) waiting None s = Unit {0}
 
 -- where the files that came into use were unmarked, the store is as clean as it was
 abbrev pub StaysClean : StoreState → StoreState → Content → Content → Type 0
 StaysClean was s old new = UnmarkedSince old new → IsClean was old.now.disk → IsClean s new.now.disk
 
--- ---- a run that ends since no file is left
+-- ---- a run that ends since no file is left, or no record id of the prepared list
 
--- the commands before are answered, and the next one needs a file that can't be had on the disk as it is
+-- the commands before are answered, and the next one needs what can't be had on the disk as it is
 pub record MeetsEnd (home : PoolId) (S : MachineState) (script : List ℕ) (old new : Content) : Type 0 where
   pub done : List (Option Command)
   pub next : Option Command
   pub rest : List (Option Command)
   pub split : commands script ≡ done ++ next ∷ rest
   pub answered : new.now.answered ≡ old.now.answered ++ answers_text S done
-  pub meets : LineMeetsEnd home (state_answered S done) (built_line next) new.now.disk
+  pub meets : LineMeetsEnd home (state_answered S done) next new.now.disk
 
 -- where the files that came into use were unmarked
 abbrev pub SpentFrom : PoolId → MachineState → Option Content → Option Content → Option (List ℕ) → Type 0
@@ -103,17 +133,17 @@ EndsSpent home old new script = SpentFrom home empty_state old new script
 
 -- a store that was clean
 abbrev pub EndsSpentIn : StoreState → Option Content → Option Content → Option (List ℕ) → Type 0
-EndsSpentIn s (Some old) (Some new) (Some script) = UnmarkedSince old new → IsClean s old.now.disk → MeetsEnd s.home (state_of s) script old new
+EndsSpentIn s (Some old) (Some new) (Some script) = UnmarkedSince old new → IsClean s old.now.disk → MeetsEnd (home_of s) (state_of s) script old new
 EndsSpentIn s None new script = Unit {0}
 EndsSpentIn s (Some old) None script = Unit {0}
 EndsSpentIn s (Some old) (Some new) None = Unit {0}
 
--- ---- a run to its end that had each file that it needed
+-- ---- a run to its end that had what each of its commands needs first
 
 -- the first of these commands, where there is one, doesn't meet its end on the disk
 abbrev pub NextIsFree : PoolId → MachineState → List (Option Command) → Disk → Type 0
 NextIsFree home S [] d = Unit {0}
-NextIsFree home S (c ∷ cs) d = LineMeetsEnd home S (built_line c) d → ⊥
+NextIsFree home S (c ∷ cs) d = LineMeetsAtOnce home S c d → ⊥
 
 -- these are the answers to the first of the commands, and the one after them doesn't meet its end
 pub record GoesOn (home : PoolId) (S : MachineState) (script before : List ℕ) (n : Moment) : Type 0 where
@@ -140,7 +170,7 @@ HadFiles home old new script = HadFrom home empty_state old new script
 
 -- a store that was clean
 abbrev pub HadClean : StoreState → Option Content → Option Content → Option (List ℕ) → Type 0
-HadClean s (Some old) (Some new) (Some script) = UnmarkedSince old new → IsClean s old.now.disk → HadItsFiles s.home (state_of s) script old new
+HadClean s (Some old) (Some new) (Some script) = UnmarkedSince old new → IsClean s old.now.disk → HadItsFiles (home_of s) (state_of s) script old new
 HadClean s None new script = Unit {0}
 HadClean s (Some old) None script = Unit {0}
 HadClean s (Some old) (Some new) None = Unit {0}
@@ -171,7 +201,7 @@ RepliesStored home old new script = RepliesFrom home empty_state old new script
 
 -- a store that was clean
 abbrev pub RepliesClean : StoreState → Option Content → Option Content → Option (List ℕ) → Type 0
-RepliesClean s (Some old) (Some new) (Some script) = IsQuiet old.now.disk → UnmarkedSince old new → IsClean s old.now.disk → RepliesIn s.home (state_of s) script old new
+RepliesClean s (Some old) (Some new) (Some script) = IsQuiet old.now.disk → UnmarkedSince old new → IsClean s old.now.disk → RepliesIn (home_of s) (state_of s) script old new
 RepliesClean s None new script = Unit {0}
 RepliesClean s (Some old) None script = Unit {0}
 RepliesClean s (Some old) (Some new) None = Unit {0}
@@ -179,14 +209,14 @@ RepliesClean s (Some old) (Some new) None = Unit {0}
 -- ---- from each moment to the next
 
 -- the pools of the queues after these commands
-abbrev pub homes_answered : PoolId → MachineState → List (Option Command) → Homes → Homes
-homes_answered home S [] homes = homes
-homes_answered home S (c ∷ cs) homes = homes_answered home (answer_line S c).0 cs (homes_by home S (built_line c) homes)
+abbrev pub homes_answered : MachineState → List (Option Command) → Homes → Homes
+homes_answered S [] homes = homes
+homes_answered S (c ∷ cs) homes = homes_answered (answer_line S c).0 cs (homes_by S c homes)
 
 -- the pools while the first of these commands is at work, if there is one
-abbrev pub homes_at_work : PoolId → MachineState → List (Option Command) → Homes → Homes
-homes_at_work home S [] homes = homes
-homes_at_work home S (c ∷ cs) homes = homes_by home S (built_line c) homes
+abbrev pub homes_at_work : MachineState → List (Option Command) → Homes → Homes
+homes_at_work S [] homes = homes
+homes_at_work S (c ∷ cs) homes = homes_by S c homes
 
 abbrev pub StaysIfRefused : MachineState → List (Option Command) → Moment → Moment → Type 0
 StaysIfRefused S [] m n = Unit {0}
@@ -194,25 +224,25 @@ StaysIfRefused S (c ∷ cs) m n = is_accepted (answer_line S c).1 ≡ false → 
 
 -- The first of the commands are answered at the first moment, and the next one is at work: a file that comes into use is of the pool that
 -- the command of its queue named, else of the default one, and no file changes for a command that is refused
-pub record IsAtWork (home : PoolId) (S : MachineState) (homes : Homes) (script before : List ℕ) (m n : Moment) : Type 0 where
+pub record IsAtWork (S : MachineState) (homes : Homes) (script before : List ℕ) (m n : Moment) : Type 0 where
   pub done : List (Option Command)
   pub rest : List (Option Command)
   pub split : commands script ≡ done ++ rest
   pub answered : m.answered ≡ before ++ answers_text S done
-  pub pools : TakesFromHome (homes_at_work home (state_answered S done) rest (homes_answered home S done homes)) m n
+  pub pools : TakesFromHome (homes_at_work (state_answered S done) rest (homes_answered S done homes)) m n
   pub still : StaysIfRefused (state_answered S done) rest m n
 
-abbrev pub WorksFrom : PoolId → MachineState → Homes → Option Content → Option Content → Option (List ℕ) → Type 0
-WorksFrom home S homes (Some old) (Some new) (Some script) = Chain (IsAtWork home S homes script old.now.answered) old.now (moments_since old new)
-WorksFrom home S homes None new script = Unit {0}
-WorksFrom home S homes (Some old) None script = Unit {0}
-WorksFrom home S homes (Some old) (Some new) None = Unit {0}
+abbrev pub WorksFrom : MachineState → Homes → Option Content → Option Content → Option (List ℕ) → Type 0
+WorksFrom S homes (Some old) (Some new) (Some script) = Chain (IsAtWork S homes script old.now.answered) old.now (moments_since old new)
+WorksFrom S homes None new script = Unit {0}
+WorksFrom S homes (Some old) None script = Unit {0}
+WorksFrom S homes (Some old) (Some new) None = Unit {0}
 
 abbrev pub WorksOnCommands : PoolId → Option Content → Option Content → Option (List ℕ) → Type 0
-WorksOnCommands home old new script = WorksFrom home empty_state no_homes old new script
+WorksOnCommands home old new script = WorksFrom empty_state (no_homes home) old new script
 
 abbrev pub WorksIn : StoreState → Option Content → Option Content → Option (List ℕ) → Type 0
-WorksIn s old new script = WorksFrom s.home (state_of s) (homes_of s) old new script
+WorksIn s old new script = WorksFrom (state_of s) (homes_of s) old new script
 
 -- ---- the discipline
 
@@ -234,15 +264,10 @@ LeavesClean s old new = IsQuiet old.now.disk → UnmarkedSince old new → IsCle
 -- from each history in which its files were written
 abbrev pub AnswersClean : StoreState → Content → Content → Type 0
 AnswersClean s old new =
-    (h : History) → now h ≡ old.now → AreWritten [] h s → IsQuiet old.now.disk → UnmarkedSince old new → IsClean s old.now.disk → AnswersInOrder h (moments_since old new)
+    (h : History) → now h ≡ old.now → AreWritten [] h s.journals → IsQuiet old.now.disk → UnmarkedSince old new → IsClean s old.now.disk → AnswersInOrder h (moments_since old new)
 
 abbrev pub WritesClean : StoreState → Content → Content → Type 0
-WritesClean s old new = (h : History) → now h ≡ old.now → AreWritten [] h s → WritesInOrder [] h (moments_since old new)
-
--- the clause for the job that the words ask for, where they ask for one
-abbrev pub IfJob : Option Job → (PoolId → Type 0) → Type 0
-IfJob None P = Unit {0}
-IfJob (Some (Run home)) P = P home
+WritesClean s old new = (h : History) → now h ≡ old.now → AreWritten [] h s.journals → WritesInOrder [] h (moments_since old new)
 
 -- ---- how much of the script was read
 
@@ -264,6 +289,7 @@ is_too_long (Err fault.Memory) = false
 is_too_long (Err fault.Draw) = false
 is_too_long (Err fault.Spent) = false
 is_too_long (Err fault.NotEmpty) = false
+is_too_long (Err fault.Damaged) = false
 is_too_long (Ok x) = false
 
 -- ---- a site that can't be started on
@@ -293,6 +319,7 @@ refuses_start (Err fault.Source) = false
 refuses_start (Err fault.TooLong) = false
 refuses_start (Err fault.Draw) = false
 refuses_start (Err fault.Spent) = false
+refuses_start (Err fault.Damaged) = false
 refuses_start (Ok x) = false
 
 -- on such a site only these answers come, and nothing changes; on another not the answer that it is one
@@ -308,10 +335,11 @@ Starts (Some old) new result = StartsOn (full old.now.disk) (Some old) new resul
 -- ---- the statuses
 
 abbrev pub is_status : ℕ → Bool
-is_status n = list_any (λ k. k == n) (0 ∷ 2 ∷ 4 ∷ 5 ∷ 6 ∷ 7 ∷ 8 ∷ 9 ∷ 10 ∷ [])
+is_status n = list_any (λ k. k == n) (0 ∷ 2 ∷ 3 ∷ 4 ∷ 5 ∷ 6 ∷ 7 ∷ 8 ∷ 9 ∷ 10 ∷ [])
 
 abbrev pub status_of_result : Result (Unit {0}) Fault → ℕ
 status_of_result (Ok x) = 0
+status_of_result (Err fault.Damaged) = 3
 status_of_result (Err fault.Source) = 4
 status_of_result (Err fault.Site) = 5
 status_of_result (Err fault.Memory) = 6
@@ -336,7 +364,7 @@ MayNotBegin (Some old) = MayBegin (full old.now.disk) → ⊥
 
 -- the statuses at which each number drawn is the serial of a file
 abbrev pub is_exact_status : ℕ → Bool
-is_exact_status n = list_any (λ k. k == n) (0 ∷ 2 ∷ 4 ∷ 7 ∷ 9 ∷ 10 ∷ [])
+is_exact_status n = list_any (λ k. k == n) (0 ∷ 2 ∷ 3 ∷ 4 ∷ 7 ∷ 9 ∷ 10 ∷ [])
 
 -- ---- the order of files
 

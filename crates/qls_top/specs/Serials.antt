@@ -10,6 +10,7 @@ is_exact (Err fault.Spent) = true
 is_exact (Err fault.Source) = true
 is_exact (Err fault.TooLong) = true
 is_exact (Err fault.NotEmpty) = true
+is_exact (Err fault.Damaged) = true
 is_exact (Err fault.Site) = false
 is_exact (Err fault.Draw) = false
 is_exact (Err fault.Memory) = false

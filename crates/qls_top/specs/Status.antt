@@ -3,13 +3,14 @@ use Rattle.std.specs.Prelude.{◌≡◌, ℕ, Bool, true, false}
 use Rattle.qls_site.specs.declared.site.SiteError.{SiteError}
 use Rattle.qls_site.specs.declared.site.SiteError.TheVariants as site
 use Rattle.qls_top.specs.declared.fault.Fault.{Fault}
-use Rattle.qls_store.specs.declared.cause.Cause.{Cause}
-use Rattle.qls_store.specs.declared.cause.Cause.TheVariants as cause
+use Rattle.qls_journals.specs.declared.cause.Cause.{Cause}
+use Rattle.qls_journals.specs.declared.cause.Cause.TheVariants as cause
 use Rattle.qls_scan.specs.declared.answers.ScanFault.{ScanFault}
 use Rattle.qls_scan.specs.declared.answers.ScanFault.TheVariants as scan
-use Rattle.qls_top.specs.declared.fault.Fault.TheVariants.{Source, Site, Memory, TooLong, Draw, Spent, NotEmpty}
+use Rattle.qls_top.specs.declared.fault.Fault.TheVariants.{Damaged, Source, Site, Memory, TooLong, Draw, Spent, NotEmpty}
 
 abbrev pub status_of : Fault → ℕ
+status_of Damaged = 3
 status_of Source = 4
 status_of Site = 5
 status_of Memory = 6
@@ -43,6 +44,7 @@ is_of_site TooLong = false
 is_of_site Draw = false
 is_of_site Spent = false
 is_of_site NotEmpty = false
+is_of_site Damaged = false
 
 abbrev pub IsOfSite : Fault → Type 0
 IsOfSite f = is_of_site f ≡ true
@@ -56,6 +58,7 @@ is_of_line Spent = true
 is_of_line Source = false
 is_of_line TooLong = false
 is_of_line NotEmpty = false
+is_of_line Damaged = false
 
 abbrev pub IsOfLine : Fault → Type 0
 IsOfLine f = is_of_line f ≡ true
@@ -69,6 +72,35 @@ is_of_lines Spent = true
 is_of_lines Source = true
 is_of_lines TooLong = true
 is_of_lines NotEmpty = false
+is_of_lines Damaged = false
 
 abbrev pub IsOfLines : Fault → Type 0
 IsOfLines f = is_of_lines f ≡ true
+
+-- the faults of a run: each but damage
+abbrev pub is_of_run : Fault → Bool
+is_of_run Site = true
+is_of_run Memory = true
+is_of_run Draw = true
+is_of_run Spent = true
+is_of_run Source = true
+is_of_run TooLong = true
+is_of_run NotEmpty = true
+is_of_run Damaged = false
+
+abbrev pub IsOfRun : Fault → Type 0
+IsOfRun f = is_of_run f ≡ true
+
+-- the faults of a show
+abbrev pub is_of_show : Fault → Bool
+is_of_show Site = true
+is_of_show Memory = true
+is_of_show Damaged = true
+is_of_show Draw = false
+is_of_show Spent = false
+is_of_show Source = false
+is_of_show TooLong = false
+is_of_show NotEmpty = false
+
+abbrev pub IsOfShow : Fault → Type 0
+IsOfShow f = is_of_show f ≡ true

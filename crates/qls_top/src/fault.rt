@@ -8,6 +8,8 @@ use std::alloc::{AllocError, AllocFailed};
 /// What ended a run; each has a status of its own.
 #[derive(Clone, Copy, Debug, PartialEq, Eq)]
 pub enum Fault {
+    /// The store breaks a damage rule, and the line of the first that fails was answered.
+    Damaged,
     /// The script could not be read.
     Source,
     /// A call on the site failed.
@@ -18,7 +20,8 @@ pub enum Fault {
     TooLong,
     /// No serial could be drawn.
     Draw,
-    /// A new file was needed, and no number was left for it, or neither an empty file nor an id.
+    /// A command needed a further file, and no number was left for it, or neither an empty file nor an id; or it needed a
+    /// record id of the prepared list, and the last one was given.
     Spent,
     /// The site held a file in use at the start, or one that breaks the rules of ids and of empty files.
     NotEmpty,
@@ -33,6 +36,7 @@ impl Fault {
         ensures status { result ≡ status_of self }
     {
         match self {
+            Fault::Damaged => 3,
             Fault::Source => 4,
             Fault::Site => 5,
             Fault::Memory => 6,

@@ -1,9 +1,10 @@
-//! The top call: a script of commands, run on a site.
+//! The top call: a script of commands, run on a site, or a look at what a site means.
 #![tactic(auto)]
 
 mod fault;
 mod line;
 mod script;
+mod showing;
 mod words;
 
 ghost use Rattle.std.specs.Prelude.{◌≡◌, ◌↔◌, ◌≤◌, map, None, Ok, Err, IfOk, IfErr, IfSome, true, ◌==◌};
@@ -15,10 +16,11 @@ ghost use Rattle.qls_pool.specs.Moments.{Passes};
 ghost use Rattle.qls_pool.specs.Serials.{DrawsTaken};
 ghost use Rattle.qls_top.specs.Moments.{AnswersQuietly, IsRunStep};
 ghost use Rattle.qls_top.specs.Serials.{is_exact};
-ghost use Rattle.qls_top.specs.Run.{ForJob, RunsToEnd, ReadsBytes, Starts, is_too_long, is_status, StartsWith, MayNotBegin, EndsClean, RepliesStored, RepliesClean, HadFiles, HadClean, IfJob, EndsSpent, EndsSpentIn, TakesFilesInOrder, WritesFilesInOrder, KeepsDiscipline, LeavesClean, AnswersClean, WritesClean, WorksOnCommands, WorksIn, is_exact_status};
+ghost use Rattle.qls_top.specs.Run.{IfRun, IfShow, OfRun, OfShow, RunsToEnd, ReadsBytes, Starts, is_too_long, is_status, StartsWith, MayNotBegin, EndsClean, RepliesStored, RepliesClean, HadFiles, HadClean, EndsSpent, EndsSpentIn, TakesFilesInOrder, WritesFilesInOrder, KeepsDiscipline, LeavesClean, AnswersClean, WritesClean, WorksOnCommands, WorksIn, is_exact_status};
+ghost use Rattle.qls_top.specs.Shows.{AnswersDamage, AnswersState, OnlyShows, TellsDamage, is_show_status};
 ghost use Rattle.qls_pool.specs.Files.{OnDisk};
 ghost use Rattle.qls_store.specs.Stores.{Fits};
-ghost use Rattle.qls_top.specs.Status.{IsOfLines};
+ghost use Rattle.qls_top.specs.Status.{IsOfLines, IsOfRun};
 
 pub use fault::Fault;
 use line::run_line;
@@ -29,26 +31,32 @@ use qls_site::{Serials, Site, Source};
 use qls_store::Store;
 use qls_store::laws::clean_store_is_its_meaning;
 use script::Script;
+use showing::show;
 use std::alloc::Global;
 pub use words::{Job, parse_words, status_line};
 
 /// Runs the job that the words ask for, and answers its status.
 ///
-/// For `DIR run PART KIB` the site has no file in use at the start, and its empty files keep the rules of ids and pools.
-/// Each line of the source is run and answered, before the next one is read, where nothing fails. A queue's journal grows
-/// by files from the pool of PART and KIB; one is created only where that pool is empty.
+/// For `DIR run` and `DIR run PART KIB` the site has no file in use at the start, and its empty files keep the rules of ids
+/// and pools. Each line of the source is run and answered, before the next one is read, where nothing fails. The journal of
+/// a queue grows by files from the pool that its command named, or else from that of PART and KIB, partition 1 with files of
+/// 2,048 KiB where the words have none, and so does the prepared list; a file is created only where its pool is empty.
+///
+/// For `DIR show` the text of the state that the store means is answered, or the line of its first damage. No file changes,
+/// and neither the source nor the serials are touched.
 ///
 /// | status | comes |
 /// |---|---|
-/// | 0 | the source was read to its end, and every line is answered |
+/// | 0 | of a run: the source was read to its end, and every line is answered; of a show: the state is answered |
 /// | 2 | exactly where the words ask for no job; no call was made |
-/// | 4 | only where the source's count of faults rose |
+/// | 3 | only of a show: the store breaks a damage rule, and the line of the first that fails is answered |
+/// | 4 | only of a run, where the source's count of faults rose |
 /// | 5 | only where the site's count of faults rose |
 /// | 6 | memory was wanting |
 /// | 7 | exactly where byte 67,108,865 of the script was read |
-/// | 8 | only where the serials' count of faults rose |
-/// | 9 | a journal needed a file, and no number below 2^62 was left for it, or neither an empty file nor an id |
-/// | 10 | the site had a file in use, or one whose id or pool isn't within the limits; nothing changed |
+/// | 8 | only of a run, where the serials' count of faults rose |
+/// | 9 | only of a run: a command needed a further file, and no number below 2^62 was left for it, or neither an empty file nor an id; or it needed a record id of the prepared list, and the last one was given |
+/// | 10 | only of a run: the site had a file in use, or one whose id or pool isn't within the limits; nothing changed |
 pub fn run<R: Source, S: Site, N: Serials>(
     alloc: Global,
     words: &[String],
@@ -61,22 +69,29 @@ pub fn run<R: Source, S: Site, N: Serials>(
     ensures untouched_site { result ≡ 2 → S.told site.new ≡ S.told site.old }
     ensures untouched_source { result ≡ 2 → R.left source.new ≡ R.left source.old }
     ensures untouched_serials { result ≡ 2 → N.drawn serials.new ≡ N.drawn serials.old }
-    ensures done { result ≡ 0 → ForJob (job_of (map string_bytes words.now)) (λ home. RunsToEnd home (S.told site.old) (S.told site.new) (R.left source.old) (R.left source.new)) }
-    ensures had { result ≡ 0 → ForJob (job_of (map string_bytes words.now)) (λ home. HadFiles home (S.told site.old) (S.told site.new) (R.left source.old)) }
+    ensures done { result ≡ 0 → IfRun (job_of (map string_bytes words.now)) (λ home. RunsToEnd home (S.told site.old) (S.told site.new) (R.left source.old) (R.left source.new)) }
+    ensures had { result ≡ 0 → IfRun (job_of (map string_bytes words.now)) (λ home. HadFiles home (S.told site.old) (S.told site.new) (R.left source.old)) }
     ensures quiet { Tells AnswersQuietly (S.told site.old) (S.told site.new) }
-    ensures replied { IfJob (job_of (map string_bytes words.now)) (λ home. RepliesStored home (S.told site.old) (S.told site.new) (R.left source.old)) }
+    ensures replied { IfRun (job_of (map string_bytes words.now)) (λ home. RepliesStored home (S.told site.old) (S.told site.new) (R.left source.old)) }
     ensures orderly { Tells TakesFilesInOrder (S.told site.old) (S.told site.new) }
     ensures writes { Tells WritesFilesInOrder (S.told site.old) (S.told site.new) }
-    ensures discipline { Tells KeepsDiscipline (S.told site.old) (S.told site.new) }
-    ensures commands { IfJob (job_of (map string_bytes words.now)) (λ home. WorksOnCommands home (S.told site.old) (S.told site.new) (R.left source.old)) }
+    ensures discipline { IfRun (job_of (map string_bytes words.now)) (λ _. Tells KeepsDiscipline (S.told site.old) (S.told site.new)) }
+    ensures commands { IfRun (job_of (map string_bytes words.now)) (λ home. WorksOnCommands home (S.told site.old) (S.told site.new) (R.left source.old)) }
     ensures drawn { DrawsTaken (is_exact_status result) (S.told site.old) (S.told site.new) (N.drawn serials.old) (N.drawn serials.new) }
-    ensures spent { result ≡ 9 → ForJob (job_of (map string_bytes words.now)) (λ home. EndsSpent home (S.told site.old) (S.told site.new) (R.left source.old)) }
+    ensures spent { result ≡ 9 → OfRun (job_of (map string_bytes words.now)) (λ home. EndsSpent home (S.told site.old) (S.told site.new) (R.left source.old)) }
     ensures source { result ≡ 4 → Rose (R.faults source.old) (R.faults source.new) }
     ensures site { result ≡ 5 → Rose (S.faults site.old) (S.faults site.new) }
     ensures serials { result ≡ 8 → Rose (N.faults serials.old) (N.faults serials.new) }
     ensures too_long { ReadsBytes (result == 7) (R.left source.old) (R.left source.new) }
-    ensures not_empty { StartsWith (S.told site.old) (S.told site.new) result }
+    ensures not_empty { IfRun (job_of (map string_bytes words.now)) (λ _. StartsWith (S.told site.old) (S.told site.new) result) }
     ensures may_not { result ≡ 10 → MayNotBegin (S.told site.old) }
+    ensures shown { result ≡ 0 → IfShow (job_of (map string_bytes words.now)) (Tells AnswersState (S.told site.old) (S.told site.new)) }
+    ensures damaged { result ≡ 3 → OfShow (job_of (map string_bytes words.now)) (Tells AnswersDamage (S.told site.old) (S.told site.new)) }
+    ensures damaged_start { IfShow (job_of (map string_bytes words.now)) (IfSome (S.told site.old) (TellsDamage result)) }
+    ensures show_status { IfShow (job_of (map string_bytes words.now)) (is_show_status result ≡ true) }
+    ensures looks { IfShow (job_of (map string_bytes words.now)) (Tells OnlyShows (S.told site.old) (S.told site.new)) }
+    ensures unread { IfShow (job_of (map string_bytes words.now)) (source.new ≡ source.old) }
+    ensures undrawn { IfShow (job_of (map string_bytes words.now)) (serials.new ≡ serials.old) }
 {
     match parse_words(words) {
         None => 2,
@@ -84,6 +99,7 @@ pub fn run<R: Source, S: Site, N: Serials>(
             Ok(()) => 0,
             Err(fault) => fault.status(),
         },
+        Some(Job::Show) => show(alloc, site),
     }
 }
 
@@ -111,6 +127,7 @@ fn run_script<R: Source, S: Site, N: Serials>(
     ensures serials { result ≡ Err Fault.Draw → Rose (N.faults serials.old) (N.faults serials.new) }
     ensures too_long { ReadsBytes (is_too_long result) (R.left source.old) (R.left source.new) }
     ensures starts { Starts (S.told site.old) (S.told site.new) result }
+    ensures only { IfErr result IsOfRun }
 {
     let found = scan(alloc, site)?;
     if found.journals.as_slice().len() > 0 {

@@ -1,5 +1,5 @@
 // A line that is run on a store, and answered.
-ghost use Rattle.std.specs.Prelude.{◌≡◌, ◌≤◌, ℕ, List, None, Some, IfErr, IfOk, IfSome, Err, false, is_some};
+ghost use Rattle.std.specs.Prelude.{◌≡◌, ◌≤◌, ℕ, List, None, Some, IfErr, IfOk, IfSome, Err, false};
 ghost use Rattle.qls_site.specs.Content.{Tells, Rose, Acts, on_answered};
 ghost use Rattle.qls_command.specs.Lines.{command_of};
 ghost use Rattle.qls_command.specs.Texts.{reply_text as reply_bytes};
@@ -7,15 +7,17 @@ ghost use Rattle.qls_command.specs.Within.{IsWithin};
 ghost use Rattle.qls_pool.specs.Moments.{EndsIn, Passes};
 ghost use Rattle.qls_pool.specs.Serials.{DrawsTaken, TakesNone};
 ghost use Rattle.qls_pool.specs.Files.{IdsDiffer, OnDisk};
-ghost use Rattle.qls_store.specs.Stores.{state_of, IsStore, Fits};
-ghost use Rattle.qls_store.specs.Homes.{homes_of, is_accepted, TakesFromHome};
-ghost use Rattle.qls_store.specs.Moments.{IsStoreStep, LeavesDead, StaysWritten};
+ghost use Rattle.qls_store.specs.Stores.{state_of, home_of, rid_of, IsStore, Fits};
+ghost use Rattle.qls_journals.specs.Homes.{SameHomes, TakesFromHome};
+ghost use Rattle.qls_store.specs.Homes.{homes_of, is_accepted};
+ghost use Rattle.qls_journals.specs.Moments.{IsStoreStep, StaysWritten};
+ghost use Rattle.qls_store.specs.Steps.{LeavesDead};
 ghost use Rattle.qls_top.specs.Status.{IsOfLine, IsOfSite};
-ghost use Rattle.qls_top.specs.Answers.{built, built_line, answer_built};
+ghost use Rattle.qls_top.specs.Answers.{answer_line};
 ghost use Rattle.qls_top.specs.Moments.{AddsAnswer, AnswersQuietly, IsRunStep};
 ghost use Rattle.qls_top.specs.Causes.{CausesOfLine};
 ghost use Rattle.qls_top.specs.Serials.{is_exact};
-ghost use Rattle.qls_top.specs.Running.{RunsLine, RunsBuilt, RepliesLine, UnderLine, WritesLine, LeavesLine, AnswersLine, LineStops, homes_by};
+ghost use Rattle.qls_top.specs.Running.{RunsLine, RunsBuilt, RepliesLine, UnderLine, WritesLine, LeavesLine, AnswersLine, LineStops, homes_by, rid_after};
 
 use crate::fault::Fault;
 use qls_command::{Parsed, parse_line, reply_text};
@@ -58,17 +60,6 @@ fn send_text<S: Site>(text: &[u8], site: &mut S) -> Result<(), Fault>
     }
 }
 
-/// Whether the lines of such commands are built: those on queues without a transaction.
-fn is_built(command: &Command) -> bool
-    ensures exact { result ≡ is_some (built command.now) }
-{
-    match command {
-        Command::Queue { .. } | Command::Drop { .. } | Command::List { .. } => true,
-        Command::Put { xid, .. } | Command::Take { xid, .. } => xid.is_none(),
-        _ => false,
-    }
-}
-
 /// Runs a command.
 fn run_command<S: Site, N: Serials>(
     store: Store,
@@ -78,24 +69,22 @@ fn run_command<S: Site, N: Serials>(
 ) -> Result<(Store, Reply), Fault>
     requires within { IsWithin command }
     requires fits { IfSome (S.told site.old) (OnDisk (Fits store)) }
-    ensures stepped { IfOk result (λ r. (state_of r.0, r.1) ≡ answer_built (state_of store) (built command)) }
+    ensures stepped { IfOk result (λ r. (state_of r.0, r.1) ≡ answer_line (state_of store) (Some command)) }
     ensures store { IfOk result (λ r. IsStore r.0) }
-    ensures home { IfOk result (λ r. r.0.home ≡ store.home) }
-    ensures told { Tells (EndsIn (λ r. RunsBuilt store (built command) r.0) (Passes IsStoreStep) result) (S.told site.old) (S.told site.new) }
+    ensures home { IfOk result (λ r. home_of r.0 ≡ home_of store) }
+    ensures rid { IfOk result (λ r. rid_of r.0 ≡ rid_after (state_of store) (Some command) (rid_of store)) }
+    ensures told { Tells (EndsIn (λ r. RunsBuilt store (Some command) r.0) (Passes IsStoreStep) result) (S.told site.old) (S.told site.new) }
     ensures drawn { DrawsTaken (is_exact result) (S.told site.old) (S.told site.new) (N.drawn serials.old) (N.drawn serials.new) }
     ensures leaves { Tells (LeavesDead store) (S.told site.old) (S.told site.new) }
-    ensures writes { Tells (StaysWritten result (λ r. r.0) store) (S.told site.old) (S.told site.new) }
-    ensures pools { Tells (Passes (TakesFromHome (homes_by store.home (state_of store) (built command) (homes_of store)))) (S.told site.old) (S.told site.new) }
-    ensures homes { IfOk result (λ r. (name : List ℕ) → homes_of r.0 name ≡ homes_by store.home (state_of store) (built command) (homes_of store) name) }
+    ensures writes { Tells (StaysWritten result (λ r. r.0.journals) store.journals) (S.told site.old) (S.told site.new) }
+    ensures pools { Tells (Passes (TakesFromHome (homes_by (state_of store) (Some command) (homes_of store)))) (S.told site.old) (S.told site.new) }
+    ensures homes { IfOk result (λ r. SameHomes (homes_of r.0) (homes_by (state_of store) (Some command) (homes_of store))) }
     ensures refused { IfOk result (λ r. is_accepted r.1 ≡ false → site.new ≡ site.old) }
-    ensures still { is_accepted (answer_built (state_of store) (built command)).1 ≡ false → site.new ≡ site.old }
-    ensures spent { result ≡ Err Fault.Spent → Tells (LineStops store (built command)) (S.told site.old) (S.told site.new) }
+    ensures still { is_accepted (answer_line (state_of store) (Some command)).1 ≡ false → site.new ≡ site.old }
+    ensures spent { result ≡ Err Fault.Spent → Tells (LineStops store (Some command)) (S.told site.old) (S.told site.new) }
     ensures causes { CausesOfLine (S.faults site.old) (S.faults site.new) (N.faults serials.old) (N.faults serials.new) result }
     ensures only { IfErr result IsOfLine }
 {
-    if !is_built(&command) {
-        return Ok((store, Reply::Refused(Refusal::Line)));
-    }
     match store.step(site, serials, command) {
         Stepped::Live(store, reply) => Ok((store, reply)),
         Stepped::Ended(cause) => Err(Fault::from(cause)),
@@ -111,18 +100,19 @@ fn reply_to_line<S: Site, N: Serials>(
     serials: &mut N,
 ) -> Result<(Store, Reply), Fault>
     requires fits { IfSome (S.told site.old) (OnDisk (Fits store)) }
-    ensures stepped { IfOk result (λ r. (state_of r.0, r.1) ≡ answer_built (state_of store) (built_line (command_of line.now))) }
+    ensures stepped { IfOk result (λ r. (state_of r.0, r.1) ≡ answer_line (state_of store) (command_of line.now)) }
     ensures store { IfOk result (λ r. IsStore r.0) }
-    ensures home { IfOk result (λ r. r.0.home ≡ store.home) }
-    ensures told { Tells (EndsIn (λ r. RunsBuilt store (built_line (command_of line.now)) r.0) (Passes IsStoreStep) result) (S.told site.old) (S.told site.new) }
+    ensures home { IfOk result (λ r. home_of r.0 ≡ home_of store) }
+    ensures rid { IfOk result (λ r. rid_of r.0 ≡ rid_after (state_of store) (command_of line.now) (rid_of store)) }
+    ensures told { Tells (EndsIn (λ r. RunsBuilt store (command_of line.now) r.0) (Passes IsStoreStep) result) (S.told site.old) (S.told site.new) }
     ensures drawn { DrawsTaken (is_exact result) (S.told site.old) (S.told site.new) (N.drawn serials.old) (N.drawn serials.new) }
     ensures leaves { Tells (LeavesDead store) (S.told site.old) (S.told site.new) }
-    ensures writes { Tells (StaysWritten result (λ r. r.0) store) (S.told site.old) (S.told site.new) }
-    ensures pools { Tells (Passes (TakesFromHome (homes_by store.home (state_of store) (built_line (command_of line.now)) (homes_of store)))) (S.told site.old) (S.told site.new) }
-    ensures homes { IfOk result (λ r. (name : List ℕ) → homes_of r.0 name ≡ homes_by store.home (state_of store) (built_line (command_of line.now)) (homes_of store) name) }
+    ensures writes { Tells (StaysWritten result (λ r. r.0.journals) store.journals) (S.told site.old) (S.told site.new) }
+    ensures pools { Tells (Passes (TakesFromHome (homes_by (state_of store) (command_of line.now) (homes_of store)))) (S.told site.old) (S.told site.new) }
+    ensures homes { IfOk result (λ r. SameHomes (homes_of r.0) (homes_by (state_of store) (command_of line.now) (homes_of store))) }
     ensures refused { IfOk result (λ r. is_accepted r.1 ≡ false → site.new ≡ site.old) }
-    ensures still { is_accepted (answer_built (state_of store) (built_line (command_of line.now))).1 ≡ false → site.new ≡ site.old }
-    ensures spent { result ≡ Err Fault.Spent → Tells (LineStops store (built_line (command_of line.now))) (S.told site.old) (S.told site.new) }
+    ensures still { is_accepted (answer_line (state_of store) (command_of line.now)).1 ≡ false → site.new ≡ site.old }
+    ensures spent { result ≡ Err Fault.Spent → Tells (LineStops store (command_of line.now)) (S.told site.old) (S.told site.new) }
     ensures causes { CausesOfLine (S.faults site.old) (S.faults site.new) (N.faults serials.old) (N.faults serials.new) result }
     ensures only { IfErr result IsOfLine }
 {
@@ -149,9 +139,9 @@ pub(crate) fn run_line<S: Site, N: Serials>(
     ensures leaves { Tells (LeavesLine store) (S.told site.old) (S.told site.new) }
     ensures answers { Tells (AnswersLine store) (S.told site.old) (S.told site.new) }
     ensures drawn { DrawsTaken (is_exact result) (S.told site.old) (S.told site.new) (N.drawn serials.old) (N.drawn serials.new) }
-    ensures spent { result ≡ Err Fault.Spent → Tells (LineStops store (built_line (command_of line.now))) (S.told site.old) (S.told site.new) }
-    ensures homes { IfOk result (λ s. (name : List ℕ) → homes_of s name ≡ homes_by store.home (state_of store) (built_line (command_of line.now)) (homes_of store) name) }
-    ensures home { IfOk result (λ s. s.home ≡ store.home) }
+    ensures spent { result ≡ Err Fault.Spent → Tells (LineStops store (command_of line.now)) (S.told site.old) (S.told site.new) }
+    ensures homes { IfOk result (λ s. SameHomes (homes_of s) (homes_by (state_of store) (command_of line.now) (homes_of store))) }
+    ensures home { IfOk result (λ s. home_of s ≡ home_of store) }
     ensures store { IfOk result IsStore }
     ensures causes { CausesOfLine (S.faults site.old) (S.faults site.new) (N.faults serials.old) (N.faults serials.new) result }
     ensures only { IfErr result IsOfLine }

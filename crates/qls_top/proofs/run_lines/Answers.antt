@@ -4,12 +4,12 @@ use Rattle.qls_command.specs.Lines.{command_of}
 use Rattle.qls_pool.specs.Files.{OnDisk}
 use Rattle.qls_pool.specs.Moments.{Arrives}
 use Rattle.qls_pool.specs.Serials.{DrawsTaken}
-use Rattle.qls_pool.proofs.Serials.{drawn_then, drawn_none}
-use Rattle.qls_store.specs.Stores.{StoreState, state_of, IsStore, Fits}
+use Rattle.qls_pool.proofs.Serials.{drawn_then, drawn_none, drawn_any}
+use Rattle.qls_store.specs.Stores.{StoreState, state_of, home_of, rid_of, IsStore, Fits}
+use Rattle.qls_journals.specs.Homes.{SameHomes}
 use Rattle.qls_store.specs.Homes.{homes_of}
 use Rattle.qls_top.specs.declared.fault.Fault.{Fault}
 use Rattle.qls_top.specs.declared.fault.Fault.TheVariants as fault
-use Rattle.qls_top.specs.Answers.{built_line}
 use Rattle.qls_top.specs.Cutting.{Counted, CutsTold, script_limit, Cutter}
 use Rattle.qls_top.specs.Moments.{IsRunStep}
 use Rattle.qls_top.specs.Run.{ReadsBytes, is_too_long, UnderWay, StaysClean, RepliesClean}
@@ -19,7 +19,7 @@ use Rattle.qls_top.proofs.Chains.{went_then, tells_none}
 use Rattle.qls_top.proofs.CutLines.{counted_then}
 use Rattle.qls_top.proofs.Having.{line_had, script_had, HadWay, had_none}
 use Rattle.qls_top.proofs.Holding.{means_its_state}
-use Rattle.qls_top.proofs.Lines.{line_run, line_went, line_passes, line_fits, line_quieted, line_clean, line_spent, read_so_far, script_ended, fails_quietly, quieted_rests, begun, Quieted, quieted_none, clean_none, went_none}
+use Rattle.qls_top.proofs.Lines.{line_run, line_went, line_passes, line_fits, line_quieted, line_clean, line_spent, read_so_far, script_ended, fails_quietly, quieted_rests, quieted_passes, begun, Quieted, quieted_none, clean_none, went_none}
 use Rattle.qls_top.proofs.Replying.{line_replies, replies_none}
 use Rattle.qls_top.proofs.RunDiscipline.{KeptSoFar, line_kept, kept_none, kept_writes, kept_leaves, kept_answers, fails_writing, fails_leaving, fails_answering}
 use Rattle.qls_top.proofs.Working.{WorkedWay, line_worked, line_works, script_works, worked_none, none_works}
@@ -32,14 +32,14 @@ loop-store-init g c =
     let none : List ℕ = [] in
     let fresh : none ≡ c.in_ok-script.script.waiting = sym (ap (λ (k : Cutter). k.waiting) c.in_ok-script.ensures.fresh) in
     subst (λ (s : StoreState). record {
-      home : s.home ≡ c.args.store.home;
+      home : home_of s ≡ home_of c.args.store;
       fits : IfSome (g.S.Site.told c.args.site.now) (OnDisk (Fits s));
       went : Tells (Arrives IsRunStep) (g.S.Site.told c.args.site.now) (g.S.Site.told c.args.site.now);
       quieted : Tells Quieted (g.S.Site.told c.args.site.now) (g.S.Site.told c.args.site.now);
       clean : Tells (StaysClean c.args.store s) (g.S.Site.told c.args.site.now) (g.S.Site.told c.args.site.now);
       drawn : DrawsTaken true (g.S.Site.told c.args.site.now) (g.S.Site.told c.args.site.now) (g.N.Serials.drawn c.args.serials.now) (g.N.Serials.drawn c.args.serials.now);
       replied : RepliesClean c.args.store (g.S.Site.told c.args.site.now) (g.S.Site.told c.args.site.now) (g.R.Source.left c.args.source.now);
-      under_way : UnderWay c.args.store.home (state_of c.args.store) (g.S.Site.told c.args.site.now) (g.S.Site.told c.args.site.now) (g.R.Source.left c.args.source.now) c.in_ok-script.script.waiting (g.R.Source.left c.args.source.now) s;
+      under_way : UnderWay (rid_of c.args.store) (state_of c.args.store) (g.S.Site.told c.args.site.now) (g.S.Site.told c.args.site.now) (g.R.Source.left c.args.source.now) c.in_ok-script.script.waiting (g.R.Source.left c.args.source.now) s;
       had : HadWay c.args.store (g.S.Site.told c.args.site.now) (g.S.Site.told c.args.site.now) (g.R.Source.left c.args.source.now) c.in_ok-script.script.waiting (g.R.Source.left c.args.source.now) s;
       kept : Tells (KeptSoFar c.args.store s) (g.S.Site.told c.args.site.now) (g.S.Site.told c.args.site.now);
       worked : WorkedWay c.args.store (g.S.Site.told c.args.site.now) (g.S.Site.told c.args.site.now) (g.R.Source.left c.args.source.now) c.in_ok-script.script.waiting (g.R.Source.left c.args.source.now) s;
@@ -55,7 +55,7 @@ loop-store-init g c =
       clean = clean_none c.args.store (g.S.Site.told c.args.site.now);
       drawn = drawn_none true _ _ _ _ (tells_none (g.S.Site.told c.args.site.now)) refl;
       replied = replies_none c.args.store (g.S.Site.told c.args.site.now) (g.R.Source.left c.args.source.now);
-      under_way = subst (λ (w : List ℕ). UnderWay c.args.store.home (state_of c.args.store) (g.S.Site.told c.args.site.now) (g.S.Site.told c.args.site.now) (g.R.Source.left c.args.source.now) w (g.R.Source.left c.args.source.now) c.args.store) fresh
+      under_way = subst (λ (w : List ℕ). UnderWay (rid_of c.args.store) (state_of c.args.store) (g.S.Site.told c.args.site.now) (g.S.Site.told c.args.site.now) (g.R.Source.left c.args.source.now) w (g.R.Source.left c.args.source.now) c.args.store) fresh
           (begun c.args.store (g.S.Site.told c.args.site.now) (g.R.Source.left c.args.source.now));
       had = subst (λ (w : List ℕ). HadWay c.args.store (g.S.Site.told c.args.site.now) (g.S.Site.told c.args.site.now) (g.R.Source.left c.args.source.now) w (g.R.Source.left c.args.source.now) c.args.store) fresh
           (had_none c.args.store (g.S.Site.told c.args.site.now) (g.R.Source.left c.args.source.now));
@@ -88,14 +88,14 @@ loop-store-preserved g c =
           line_replies c.args.store c.loop-store.store _ (g.S.Site.told c.loop-store.site) _ _ (g.R.Source.left c.loop-store.source) _ c.loop-store.script c.next_line.new.self c.next_line.new.line.items script_limit c.loop-store.invariant.under_way i.counted cut
           i.went i.quieted c.loop-store.invariant.clean i.replied (line_passes c.loop-store.store command s (g.S.Site.told c.loop-store.site) _ ran)
           (subst (λ (bytes : List ℕ). Tells (RepliesLine c.loop-store.store (command_of bytes)) (g.S.Site.told c.loop-store.site) (g.S.Site.told c.run_line.new.site)) c.deref.ensures.value c.in_ok-store.ensures.replied);
-      under_way = line_run c.args.store.home (state_of c.args.store) _ (g.S.Site.told c.loop-store.site) _ _ (g.R.Source.left c.loop-store.source) _ c.loop-store.script c.next_line.new.self c.next_line.new.line.items
-          c.loop-store.store s c.loop-store.invariant.home (c.in_ok-store.ensures.home ∙ c.loop-store.invariant.home) c.loop-store.invariant.under_way cut ran;
+      under_way = line_run (rid_of c.args.store) (state_of c.args.store) _ (g.S.Site.told c.loop-store.site) _ _ (g.R.Source.left c.loop-store.source) _ c.loop-store.script c.next_line.new.self c.next_line.new.line.items
+          c.loop-store.store s c.loop-store.invariant.under_way cut ran;
       had = line_had c.args.store _ (g.S.Site.told c.loop-store.site) _ _ (g.R.Source.left c.loop-store.source) _ c.loop-store.script c.next_line.new.self c.next_line.new.line.items
-          c.loop-store.store s c.loop-store.invariant.home (c.in_ok-store.ensures.home ∙ c.loop-store.invariant.home) c.loop-store.invariant.had cut i.went c.loop-store.invariant.clean ran;
+          c.loop-store.store s c.loop-store.invariant.home c.loop-store.invariant.had cut i.went c.loop-store.invariant.clean ran;
       kept = line_kept c.args.store c.loop-store.store s command _ (g.S.Site.told c.loop-store.site) _ c.loop-store.invariant.kept ran c.in_ok-store.ensures.writes c.in_ok-store.ensures.leaves c.in_ok-store.ensures.answers;
-      worked = line_worked c.args.store c.loop-store.store c.loop-store.invariant.home c.loop-store.script c.next_line.new.self c.next_line.new.line.items s _ (g.S.Site.told c.loop-store.site) _ _ (g.R.Source.left c.loop-store.source) _ c.loop-store.invariant.worked cut i.went ran
+      worked = line_worked c.args.store c.loop-store.store c.loop-store.script c.next_line.new.self c.next_line.new.line.items s _ (g.S.Site.told c.loop-store.site) _ _ (g.R.Source.left c.loop-store.source) _ c.loop-store.invariant.worked cut i.went ran
           (subst (λ (bytes : List ℕ). Tells (UnderLine c.loop-store.store (command_of bytes)) (g.S.Site.told c.loop-store.site) (g.S.Site.told c.run_line.new.site)) c.deref.ensures.value c.in_ok-store.ensures.under)
-          (subst (λ (bytes : List ℕ). (name : List ℕ) → homes_of s name ≡ homes_by c.loop-store.store.home (state_of c.loop-store.store) (built_line (command_of bytes)) (homes_of c.loop-store.store) name) c.deref.ensures.value
+          (subst (λ (bytes : List ℕ). SameHomes (homes_of s) (homes_by (state_of c.loop-store.store) (command_of bytes) (homes_of c.loop-store.store))) c.deref.ensures.value
           c.in_ok-store.ensures.homes);
       counted = counted_then script_limit c.loop-store.script.budget c.next_line.new.self.budget _ (g.R.Source.left c.loop-store.source) _ true c.in_ok-next_line.field-0 i.counted c.in_ok-next_line.ensures.counted;
       sources = omega (arith, i.sources, c.in_ok-next_line.ensures.kept);
@@ -125,7 +125,7 @@ returns-in_err-store-clause-spent g c = λ e.
     let cut = subst (λ (b : Bool). CutsTold c.loop-store.script (g.R.Source.left c.loop-store.source) c.next_line.new.self (g.R.Source.left c.next_line.new.source) c.next_line.new.line.items b) c.if-branch.true c.in_ok-next_line.ensures.cut in
     line_spent c.args.store c.loop-store.store _ (g.S.Site.told c.loop-store.site) _ _ (g.R.Source.left c.loop-store.source) _ c.loop-store.script c.next_line.new.self c.next_line.new.line.items script_limit
     c.loop-store.invariant.home c.loop-store.invariant.under_way i.counted cut i.went c.loop-store.invariant.clean
-    (subst (λ (bytes : List ℕ). Tells (LineStops c.loop-store.store (built_line (command_of bytes))) (g.S.Site.told c.loop-store.site) (g.S.Site.told c.run_line.new.site)) c.deref.ensures.value
+    (subst (λ (bytes : List ℕ). Tells (LineStops c.loop-store.store (command_of bytes)) (g.S.Site.told c.loop-store.site) (g.S.Site.told c.run_line.new.site)) c.deref.ensures.value
     (c.run_line.ensures.spent is))
 
 pub returns-in_err-store-clause-too_long : goal.returns-in_err-store-clause-too_long
@@ -160,11 +160,17 @@ pub returns-in_err-store-clause-commands : goal.returns-in_err-store-clause-comm
 returns-in_err-store-clause-commands g c =
     let i = c.loop-store.invariant in
     let cut = subst (λ (b : Bool). CutsTold c.loop-store.script (g.R.Source.left c.loop-store.source) c.next_line.new.self (g.R.Source.left c.next_line.new.source) c.next_line.new.line.items b) c.if-branch.true c.in_ok-next_line.ensures.cut in
-    line_works c.args.store c.loop-store.store c.loop-store.invariant.home c.loop-store.script c.next_line.new.self c.next_line.new.line.items _ (g.S.Site.told c.loop-store.site) _ _ (g.R.Source.left c.loop-store.source) _ script_limit c.loop-store.invariant.worked i.counted cut i.went
+    line_works c.args.store c.loop-store.store c.loop-store.script c.next_line.new.self c.next_line.new.line.items _ (g.S.Site.told c.loop-store.site) _ _ (g.R.Source.left c.loop-store.source) _ script_limit c.loop-store.invariant.worked i.counted cut i.went
     c.in_err-store.ensures.told
     (subst (λ (bytes : List ℕ). Tells (UnderLine c.loop-store.store (command_of bytes)) (g.S.Site.told c.loop-store.site) (g.S.Site.told c.run_line.new.site)) c.deref.ensures.value c.in_err-store.ensures.under)
 
 -- ---- the script couldn't be read on
+
+pub returns-in_err-next_line-clause-quiet : goal.returns-in_err-next_line-clause-quiet
+returns-in_err-next_line-clause-quiet g c = quieted_passes _ _ c.loop-store.invariant.quieted
+
+pub returns-in_err-next_line-clause-drawn : goal.returns-in_err-next_line-clause-drawn
+returns-in_err-next_line-clause-drawn g c = drawn_any (is_exact c.from_residual-in_err-next_line.result) _ _ _ _ c.loop-store.invariant.drawn
 
 pub returns-in_err-next_line-clause-writes : goal.returns-in_err-next_line-clause-writes
 returns-in_err-next_line-clause-writes g c = kept_writes c.args.store c.loop-store.store _ _ c.loop-store.invariant.kept
@@ -181,6 +187,12 @@ returns-in_err-next_line-clause-commands g c =
 
 -- ---- there was no memory for the script
 
+pub returns-in_err-script-clause-replied : goal.returns-in_err-script-clause-replied
+returns-in_err-script-clause-replied g c = replies_none c.args.store (g.S.Site.told c.args.site.now) (g.R.Source.left c.args.source.now)
+
+pub returns-in_err-script-clause-drawn : goal.returns-in_err-script-clause-drawn
+returns-in_err-script-clause-drawn g c = drawn_none (is_exact c.from_residual.result) _ _ _ _ (tells_none (g.S.Site.told c.args.site.now)) refl
+
 pub returns-in_err-script-clause-writes : goal.returns-in_err-script-clause-writes
 returns-in_err-script-clause-writes g c = kept_writes c.args.store c.args.store _ _ (kept_none c.args.store (g.S.Site.told c.args.site.now))
 
@@ -191,16 +203,19 @@ pub returns-in_err-script-clause-answers : goal.returns-in_err-script-clause-ans
 returns-in_err-script-clause-answers g c = kept_answers c.args.store c.args.store _ _ (kept_none c.args.store (g.S.Site.told c.args.site.now))
 
 pub returns-in_err-script-clause-commands : goal.returns-in_err-script-clause-commands
-returns-in_err-script-clause-commands g c = none_works c.args.store.home (state_of c.args.store) (homes_of c.args.store) (g.S.Site.told c.args.site.now) (g.R.Source.left c.args.source.now)
+returns-in_err-script-clause-commands g c = none_works (state_of c.args.store) (homes_of c.args.store) (g.S.Site.told c.args.site.now) (g.R.Source.left c.args.source.now)
 
 -- ---- the script is at its end
+
+pub returns-clause-quiet : goal.returns-clause-quiet
+returns-clause-quiet g c = quieted_passes _ _ c.loop-store.invariant.quieted
 
 pub returns-clause-done : goal.returns-clause-done
 returns-clause-done g c =
     let i = c.loop-store.invariant in
     let cut = subst (λ (b : Bool). CutsTold c.loop-store.script (g.R.Source.left c.loop-store.source) c.next_line.new.self (g.R.Source.left c.next_line.new.source) c.next_line.new.line.items b) c.if-branch.false c.in_ok-next_line.ensures.cut in
     script_ended _ _ _ (g.R.Source.left c.loop-store.source) _ c.loop-store.script c.next_line.new.self c.next_line.new.line.items c.args.store c.loop-store.store
-    (means_its_state c.clean_store_is_its_meaning.ensures.meaning c.clean_store_is_its_meaning.ensures.alive c.clean_store_is_its_meaning.ensures.past)
+    (means_its_state c.clean_store_is_its_meaning.ensures.meaning c.clean_store_is_its_meaning.ensures.alive c.clean_store_is_its_meaning.ensures.past) c.clean_store_is_its_meaning.ensures.rid
     i.under_way (subst IsStore c.store-in-loop-store.view_is c.store-in-loop-store.invariant) i.fits (quieted_rests _ _ i.quieted) i.clean cut
 
 pub returns-clause-had : goal.returns-clause-had

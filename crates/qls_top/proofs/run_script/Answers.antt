@@ -11,6 +11,7 @@ use Rattle.qls_top.proofs.Beginning.{looked, looked_in_order, looked_quietly, lo
 use Rattle.qls_top.proofs.FirstMoments.{looked_writes, looked_keeps, run_writes, run_keeps}
 use Rattle.qls_top.proofs.Having.{run_had}
 use Rattle.qls_top.proofs.Replying.{run_replies, looked_replies}
+use Rattle.qls_top.proofs.Starting.{new_is}
 use Rattle.qls_top.proofs.Working.{looked_works, run_works}
 use Rattle.qls_top.proofs.run_script.Goals as goal
 
@@ -105,7 +106,7 @@ pub run_lines-requires : goal.run_lines-requires
 run_lines-requires g c =
     let none : length c.in_ok-found.found.journals ≡ 0 = omega (arith, c.if-as_slice-gt0.false, ap (λ (js : List JournalFiles). length js) c.as_slice.ensures.same) in
     record {
-      fits = fits_started c.new-store.result c.in_ok-found.found _ _ c.scan.ensures.rising c.in_ok-found.ensures.found none c.in_ok-found.ensures.sound.greatest (looked _ _ c.scan.ensures.rising c.scan.ensures.told) c.new-store.ensures.queues (ap (λ p. p.greatest) c.new-store.ensures.pool ∙ c.in_ok-pool.ensures.opened.greatest)
+      fits = fits_started c.args.home c.new-store.result c.in_ok-found.found _ _ c.scan.ensures.rising c.in_ok-found.ensures.found none c.in_ok-found.ensures.sound.greatest (looked _ _ c.scan.ensures.rising c.scan.ensures.told) (new_is c.args.home c.new-store.result c.new-store.ensures.home c.new-store.ensures.state c.new-store.ensures.queues c.new-store.ensures.list c.new-store.ensures.rid) (ap (λ p. p.greatest) c.new-store.ensures.pool ∙ c.in_ok-pool.ensures.opened.greatest)
           (λ d listing. subst (λ p. IsPoolOf p [] d) (sym c.new-store.ensures.pool) (c.in_ok-pool.ensures.pool d listing));
     }
 
@@ -113,7 +114,7 @@ pub returns-clause-done : goal.returns-clause-done
 returns-clause-done g c =
     if_ok (EndsClean c.new-store.result (g.S.Site.told c.scan.new.site) (g.S.Site.told c.run_lines.new.site) (g.R.Source.left c.args.source.now) (g.R.Source.left c.run_lines.new.source))
     (RunsToEnd c.args.home (g.S.Site.told c.args.site.now) (g.S.Site.told c.run_lines.new.site) (g.R.Source.left c.args.source.now) (g.R.Source.left c.run_lines.new.source)) c.run_lines.result c.run_lines.ensures.done
-    (run_done c.args.home c.new-store.result _ (g.S.Site.told c.scan.new.site) _ _ _ c.new-store.ensures.state c.new-store.ensures.queues (looked _ _ c.scan.ensures.rising c.scan.ensures.told) c.run_lines.ensures.went)
+    (run_done c.args.home c.new-store.result _ (g.S.Site.told c.scan.new.site) _ _ _ (new_is c.args.home c.new-store.result c.new-store.ensures.home c.new-store.ensures.state c.new-store.ensures.queues c.new-store.ensures.list c.new-store.ensures.rid) (looked _ _ c.scan.ensures.rising c.scan.ensures.told) c.run_lines.ensures.went)
 
 pub returns-clause-orderly : goal.returns-clause-orderly
 returns-clause-orderly g c =
@@ -127,7 +128,7 @@ pub returns-clause-drawn : goal.returns-clause-drawn
 returns-clause-drawn g c = lines_drawn (is_exact c.run_lines.result) _ (g.S.Site.told c.scan.new.site) _ _ _ (looked _ _ c.scan.ensures.rising c.scan.ensures.told) c.run_lines.ensures.went c.run_lines.ensures.drawn
 
 pub returns-clause-spent : goal.returns-clause-spent
-returns-clause-spent g c = λ e. run_spent c.args.home c.new-store.result _ (g.S.Site.told c.scan.new.site) _ _ c.new-store.ensures.home c.new-store.ensures.state c.new-store.ensures.queues (looked _ _ c.scan.ensures.rising c.scan.ensures.told) c.run_lines.ensures.went (c.run_lines.ensures.spent e)
+returns-clause-spent g c = λ e. run_spent c.args.home c.new-store.result _ (g.S.Site.told c.scan.new.site) _ _ (new_is c.args.home c.new-store.result c.new-store.ensures.home c.new-store.ensures.state c.new-store.ensures.queues c.new-store.ensures.list c.new-store.ensures.rid) (looked _ _ c.scan.ensures.rising c.scan.ensures.told) c.run_lines.ensures.went (c.run_lines.ensures.spent e)
 
 pub returns-clause-starts : goal.returns-clause-starts
 returns-clause-starts g c =
@@ -135,22 +136,22 @@ returns-clause-starts g c =
     starts_ready c.in_ok-found.found c.run_lines.result _ _ c.in_ok-found.ensures.found none c.run_lines.ensures.only
 
 pub returns-clause-replied : goal.returns-clause-replied
-returns-clause-replied g c = run_replies c.args.home c.new-store.result _ (g.S.Site.told c.scan.new.site) _ _ c.new-store.ensures.home c.new-store.ensures.state c.new-store.ensures.queues (looked _ _ c.scan.ensures.rising c.scan.ensures.told) c.run_lines.ensures.went c.run_lines.ensures.replied
+returns-clause-replied g c = run_replies c.args.home c.new-store.result _ (g.S.Site.told c.scan.new.site) _ _ (new_is c.args.home c.new-store.result c.new-store.ensures.home c.new-store.ensures.state c.new-store.ensures.queues c.new-store.ensures.list c.new-store.ensures.rid) (looked _ _ c.scan.ensures.rising c.scan.ensures.told) c.run_lines.ensures.went c.run_lines.ensures.replied
 
 pub returns-clause-had : goal.returns-clause-had
 returns-clause-had g c =
     if_ok (HadClean c.new-store.result (g.S.Site.told c.scan.new.site) (g.S.Site.told c.run_lines.new.site) (g.R.Source.left c.args.source.now))
     (HadFiles c.args.home (g.S.Site.told c.args.site.now) (g.S.Site.told c.run_lines.new.site) (g.R.Source.left c.args.source.now)) c.run_lines.result c.run_lines.ensures.had
-    (run_had c.args.home c.new-store.result _ (g.S.Site.told c.scan.new.site) _ _ c.new-store.ensures.home c.new-store.ensures.state c.new-store.ensures.queues (looked _ _ c.scan.ensures.rising c.scan.ensures.told) c.run_lines.ensures.went)
+    (run_had c.args.home c.new-store.result _ (g.S.Site.told c.scan.new.site) _ _ (new_is c.args.home c.new-store.result c.new-store.ensures.home c.new-store.ensures.state c.new-store.ensures.queues c.new-store.ensures.list c.new-store.ensures.rid) (looked _ _ c.scan.ensures.rising c.scan.ensures.told) c.run_lines.ensures.went)
 
 pub returns-clause-writes : goal.returns-clause-writes
-returns-clause-writes g c = run_writes c.new-store.result _ (g.S.Site.told c.scan.new.site) _ c.new-store.ensures.queues c.scan.ensures.rising c.scan.ensures.told c.run_lines.ensures.went c.run_lines.ensures.writes
+returns-clause-writes g c = run_writes c.args.home c.new-store.result _ (g.S.Site.told c.scan.new.site) _ (new_is c.args.home c.new-store.result c.new-store.ensures.home c.new-store.ensures.state c.new-store.ensures.queues c.new-store.ensures.list c.new-store.ensures.rid) c.scan.ensures.rising c.scan.ensures.told c.run_lines.ensures.went c.run_lines.ensures.writes
 
 pub returns-clause-discipline : goal.returns-clause-discipline
 returns-clause-discipline g c =
     let none : length c.in_ok-found.found.journals ≡ 0 = omega (arith, c.if-as_slice-gt0.false, ap (λ (js : List JournalFiles). length js) c.as_slice.ensures.same) in
-    run_keeps c.new-store.result _ (g.S.Site.told c.scan.new.site) _ c.new-store.ensures.queues c.scan.ensures.rising c.scan.ensures.told c.run_lines.ensures.went
+    run_keeps c.args.home c.new-store.result _ (g.S.Site.told c.scan.new.site) _ (new_is c.args.home c.new-store.result c.new-store.ensures.home c.new-store.ensures.state c.new-store.ensures.queues c.new-store.ensures.list c.new-store.ensures.rid) c.scan.ensures.rising c.scan.ensures.told c.run_lines.ensures.went
     (lines_in_order c.in_ok-found.found _ _ _ c.scan.ensures.rising c.in_ok-found.ensures.found none (looked _ _ c.scan.ensures.rising c.scan.ensures.told) c.run_lines.ensures.went) c.run_lines.ensures.writes c.run_lines.ensures.leaves c.run_lines.ensures.answers
 
 pub returns-clause-commands : goal.returns-clause-commands
-returns-clause-commands g c = run_works c.args.home c.new-store.result _ (g.S.Site.told c.scan.new.site) _ _ c.new-store.ensures.home c.new-store.ensures.state c.new-store.ensures.queues c.scan.ensures.rising c.scan.ensures.told c.run_lines.ensures.went c.run_lines.ensures.commands
+returns-clause-commands g c = run_works c.args.home c.new-store.result _ (g.S.Site.told c.scan.new.site) _ _ (new_is c.args.home c.new-store.result c.new-store.ensures.home c.new-store.ensures.state c.new-store.ensures.queues c.new-store.ensures.list c.new-store.ensures.rid) c.scan.ensures.rising c.scan.ensures.told c.run_lines.ensures.went c.run_lines.ensures.commands
