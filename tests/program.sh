@@ -13,7 +13,7 @@ cd "$room" || exit 1
 passed=0
 failed=0
 skipped=0
-USAGE='usage: qls DIR run PART KIB'
+USAGE='usage: qls DIR run [PART KIB] | show'
 
 pass() { passed=$((passed + 1)); }
 fail() { failed=$((failed + 1)); printf 'FAILED  %s: %s\n' "$scenario" "$1"; }
@@ -113,6 +113,73 @@ ended 0 $'ok\nok 1' ''
 is 'the files' "$(cd a/b/store && find . -type f)" "./inuse/$FIRST"
 serial=$(bytes_of "a/b/store/inuse/$FIRST" | cut -c17-32)
 is 'the file' "$(bytes_of "a/b/store/inuse/$FIRST")" "$(whole_file "$serial")"
+
+# ---- shows
+
+# The state of that store
+SHOWN=$'queues 1\nqueue a last 1 messages 1\n1 ready 6869\ndoubt 0'
+
+scenario='a show of what a run left'
+before=$(tree a/b/store)
+run a/b/store show <script.txt
+ended 0 "$SHOWN" ''
+is 'what lies there' "$(tree a/b/store)" "$before"
+
+scenario='a show of a store whose folders and files are for reading alone'
+if [ "$(id -u)" -eq 0 ]; then
+    skip 'the tester is root, whom no permission stops'
+else
+    cp -r a/b/store reading && chmod -R a-w reading
+    run reading show <script.txt
+    ended 0 "$SHOWN" ''
+fi
+
+scenario='a show beside a show, and a run beside it'
+long=$(repeat 5a 100000)
+printf 'queue a\nput a %s\n' "$long" >lines.txt
+run watched run 1 4 <lines.txt
+ended 0 $'ok\nok 1' ''
+wanted=$'queues 1\nqueue a last 1 messages 1\n1 ready '$long$'\ndoubt 0'
+mkfifo shown.fifo
+timeout 60 "$qls" watched show </dev/null >shown.fifo 2>first.txt &
+first=$!
+exec 7<shown.fifo
+# it has the store, and more to say than the pipe holds
+IFS= read -r -n 1 -u 7 byte
+run watched show </dev/null
+ended 0 "$wanted" ''
+run watched run 1 4 </dev/null
+ended 5 '' 'site fault'
+is 'what the first says' "$byte$(cat <&7)" "$wanted"
+exec 7<&-
+wait "$first"
+is 'status of the first' "$?" 0
+
+scenario='a changed byte in a header'
+cp -r a/b/store changed
+printf '\003' | dd of="changed/inuse/$FIRST" bs=1 seek=48 conv=notrunc 2>/dev/null
+before=$(tree changed)
+run changed show <script.txt
+ended 3 'damaged file 1 rule checksum' ''
+is 'what lies there' "$(tree changed)" "$before"
+
+scenario='a show where nothing is'
+mkdir empty
+run empty show <script.txt
+ended 0 $'queues 0\ndoubt 0' ''
+is 'what is made' "$(tree empty)" 'd empty'
+run nowhere show <script.txt
+ended 0 $'queues 0\ndoubt 0' ''
+is 'what is made' "$(tree nowhere)" ''
+
+# ---- the default pool
+
+scenario='words without a pool'
+printf 'queue a\n' >lines.txt
+run plain run <lines.txt
+ended 0 'ok' ''
+is 'the size of the file' "$(stat -c %s "plain/inuse/$FIRST")" 2101248
+is 'its partition and KiB' "$(bytes_of "plain/inuse/$FIRST" | cut -c49-64)" "$(little 1 4)$(little 2048 4)"
 
 # ---- a journal that grows by files
 
@@ -288,6 +355,66 @@ run dropped run 1 4 <lines.txt
 ended 0 $'ok\nok' ''
 is 'the pools' "$(cd dropped && find . -name '*.qls')" "./empty/2/8/$FIRST"
 
+# ---- transactions
+
+# What the plain machine answers to the script in lines.txt
+machine() { awk -f "$top/tests/machine.awk" lines.txt; }
+
+scenario='a transaction over two queues'
+printf '%s\n' 'queue orders' 'queue audit.log' 'put orders 7b226964223a317d' 'begin 8F01' 'take orders 1 in 8f01' \
+    'put audit.log 7b226964223a317d in 8f01' 'commit 8f01' 'list orders' 'list audit.log' >lines.txt
+run decided run 1 2048 <lines.txt
+ended 0 $'ok\nok\nok 1\nok\nok\nok 1\nok\nok 0\nok 1\n1 ready 7b226964223a317d' ''
+is 'the machine' "$(machine)" "$out"
+is 'files in use' "$(ids_in decided/inuse)" '1 2 3 '
+is 'their sizes' "$(stat -c %s decided/inuse/*.qls | sort -u)" 2101248
+list=$(bytes_of "$(file_at decided 3)" | cut -c1-8192)
+is 'the journal of the third' "${list:112:8}" 02000000
+is 'its pool, first place, number and epoch' "${list:48:64}" "$(little 1 4)$(little 2048 4)$(little 4096 8)$(little 1 8)$(little 1 8)"
+
+scenario='a transaction in doubt'
+printf '%s\n' 'queue a' 'queue b' 'begin 01' 'put a 0a in 01' 'put b 0b in 01' 'prepare 01' 'doubt' 'list a' 'begin 02' >lines.txt
+run doubted run 1 4 <lines.txt
+ended 0 $'ok\nok\nok\nok 1\nok 1\nok\nok 1\n01\nok 1\n1 coming 01 0a\nok' ''
+is 'files in use' "$(ids_in doubted/inuse)" '1 2 3 '
+entry=$(bytes_of "$(file_at doubted 3)" | cut -c8193-8448)
+nine=$(serial_of doubted 3)
+is 'the entry' "${entry:0:82}" "514c536502000000$nine$(little 1 8)$(little 1 8)$(little 0 8)01"
+
+scenario='what transactions are refused'
+printf '%s\n' 'queue a' 'queue a' 'take b 1' 'put a 01 in 05' 'begin 05' 'prepare 05' 'put a 01 in 05' 'commit 05' 'put a 01' \
+    'take a 9' 'drop a' 'take a 1' 'drop a' 'list a' >lines.txt
+run refused run 1 4 <lines.txt
+ended 0 "$(printf '%s\n' ok 'refused exists' 'refused queue' 'refused xid' ok ok 'refused phase' ok 'ok 1' 'refused message' \
+    'refused busy' ok ok 'refused queue')" ''
+is 'the machine' "$(machine)" "$out"
+
+scenario='two hundred transactions over five queues, eight at once'
+interleaved() {
+    local turn slot xid queue
+    printf 'queue q%s\n' 0 1 2 3 4
+    for ((turn = 0; turn < 1600; turn++)); do
+        slot=$((turn % 8))
+        xid=$(printf %04x $((turn / 64 * 8 + slot)))
+        queue=q$(((turn * 7 + turn / 8) % 5))
+        case $((turn / 8 % 8)) in
+        0) printf 'begin %s\n' "$xid" ;;
+        1 | 3) printf 'put %s %04x in %s\n' $queue $turn "$xid" ;;
+        2 | 4) printf 'take %s %s in %s\n' $queue $((turn / 40 + 1)) "$xid" ;;
+        5) if ((0x$xid % 3 > 0)); then printf 'prepare %s\n' "$xid"; else printf 'put %s %04x\n' $queue $turn; fi ;;
+        6) printf 'list %s\ndoubt\n' $queue ;;
+        *) if ((0x$xid % 4 == 1)); then printf 'abort %s\n' "$xid"; else printf 'commit %s\n' "$xid"; fi ;;
+        esac
+    done
+}
+interleaved >lines.txt
+timeout 600 "$qls" many run 1 8 <lines.txt >out.txt 2>err.txt
+is status "$?" 0
+is 'standard error' "$(cat err.txt)" ''
+machine >wanted.txt
+is 'replies' "$(cmp out.txt wanted.txt && wc -l <out.txt)" "$(wc -l <wanted.txt)"
+is 'refusals and lists among them' "$(grep -c -e refused -e coming -e going wanted.txt | awk '{ print ($1 > 100) }')" 1
+
 scenario='a folder that is empty, and what a cut left in it'
 mkdir -p store/empty/1/4 store/empty/2/8 store/inuse
 printf 'left' | tee "store/empty/1/4/$UNFINISHED" "store/empty/2/8/$UNFINISHED" >"store/inuse/$UNFINISHED"
@@ -355,6 +482,8 @@ before=$(tree shared)
 run shared run 1 4 <script.txt
 ended 5 '' 'site fault'
 is 'what lies there' "$(tree shared)" "$before"
+run shared show </dev/null
+ended 5 '' 'site fault'
 printf 'put a 6869\n' >&7
 exec 7>&-
 wait "$first"
@@ -469,7 +598,12 @@ usage d
 usage d walk
 usage d run 1
 usage d run 1 4 5
+usage d show 1
+usage d show 1 4
+usage d shows
 usage '' run 1 4
+usage '' run
+usage '' show
 usage d run 0 4
 usage d run 1000 4
 usage d run 01 4

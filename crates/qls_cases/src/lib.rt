@@ -2,6 +2,8 @@
 #![tactic(auto)]
 
 #[cfg(test)]
+mod deciding;
+#[cfg(test)]
 mod faults;
 #[cfg(test)]
 mod growing;
@@ -13,5 +15,7 @@ mod pools;
 mod returning;
 #[cfg(test)]
 mod scripts;
+#[cfg(test)]
+mod showing;
 #[cfg(test)]
 mod stored;

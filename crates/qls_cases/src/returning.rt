@@ -9,7 +9,7 @@ use std::process::Abort;
 use std::test::Fail;
 
 // Runs a script over files of 4 KiB, and hands out what a crash leaves behind it.
-fn left_by(
+pub(crate) fn left_by(
     rt: &impl Abort,
     alloc: Global,
     script: &str,
@@ -24,14 +24,20 @@ fn left_by(
 }
 
 // A file of 4 KiB lies here.
-fn check_place(rt: &impl Abort, files: &Seq<ImageFile>, at: usize, id: u64, place: Place) {
+pub(crate) fn check_place(
+    rt: &impl Abort,
+    files: &Seq<ImageFile>,
+    at: usize,
+    id: u64,
+    place: Place,
+) {
     assert_eq!(rt;
         files.get(at).map(|file| (file.id, file.place)),
         Some((id, place))
     );
 }
 
-const POOL: Place = Place::Empty { part: 1, kib: 4 };
+pub(crate) const POOL: Place = Place::Empty { part: 1, kib: 4 };
 
 #[test]
 fn a_file_goes_back_with_all_its_bytes(rt: HostRuntime) -> Result<(), Fail> {

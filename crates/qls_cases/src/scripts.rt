@@ -1,4 +1,5 @@
 // What scripts are answered.
+use crate::growing::number_at;
 use crate::outside::{image_before_end, run_on};
 use qls_memsite::{MemSerials, MemSite, MemSource};
 use qls_model::{Bytes, NoMemory};
@@ -44,9 +45,9 @@ const SCRIPTS: [(&str, &str, &str, usize); 17] = [
     ("d run 1 4", "queue a\nput a 0", "ok\nrefused line\n", 1),
     (
         "d run 1 4",
-        "begin 01\nprepare 01\ncommit 01\nabort 01\ndoubt\nput a 01 in 02\ntake a 1 in 02\n",
-        "refused line\nrefused line\nrefused line\nrefused line\nrefused line\nrefused line\nrefused line\n",
-        0,
+        "begin 01\nabort 01\ndoubt\nput a 01 in 02\nqueue a\ntake a 1 in 02\n",
+        "ok\nok\nok 0\nrefused queue\nok\nrefused xid\n",
+        1,
     ),
     (
         "d run 1 4",
@@ -171,9 +172,13 @@ fn words_without_a_job_call_nothing(rt: HostRuntime) -> Result<(), Fail> {
     let alloc = rt.alloc();
     for words in [
         "d walk",
+        "d show 1",
+        " show",
+        "d run 1",
         "d run 1 5",
         "d run 01 4",
         " run 1 4",
+        " run",
         "d run 1 4 5",
     ] {
         let mut site = MemSite::new(alloc);
@@ -190,5 +195,25 @@ fn words_without_a_job_call_nothing(rt: HostRuntime) -> Result<(), Fail> {
         &mut MemSerials::counting(7),
     );
     assert_eq!(rt; (status, site.moment_count()), (2, 1));
+    Ok(())
+}
+
+// Partition 1, and 2,048 KiB of data behind each header.
+#[test]
+fn words_without_a_pool_have_a_default_one(rt: HostRuntime) -> Result<(), Fail> {
+    let alloc = rt.alloc();
+    let mut site = MemSite::new(alloc);
+    let script = "queue a\nbegin 01\nput a 0a in 01\ncommit 01\n";
+    let bytes = Bytes::new(alloc, script.as_bytes())?;
+    let status = run_on(alloc, "d run", bytes, 9, &mut site)?;
+    assert_eq!(rt; status, 0);
+    assert_eq!(rt; site.answered(), b"ok\nok\nok 1\nok\n".as_slice());
+    let files = image_before_end(&rt, alloc, &site, 0)?;
+    assert_eq!(rt; files.len(), 2);
+    for (at, file) in files.as_slice().iter().enumerate() {
+        assert_eq!(rt; file.bytes.as_slice().len(), 2_101_248);
+        // the partition, and then the KiB
+        assert_eq!(rt; number_at(&files, at, 24), Some((2_048 << 32) + 1));
+    }
     Ok(())
 }

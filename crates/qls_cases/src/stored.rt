@@ -19,7 +19,7 @@ const MESSAGE: &str =
 const FILLER: &str = "514c53780200000007000000000000000100000000000000";
 
 // Puts the bytes at the end, and so many of another.
-fn add_padded(
+pub(crate) fn add_padded(
     alloc: Global,
     bytes: &mut Bytes,
     digits: &str,
