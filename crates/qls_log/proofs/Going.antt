@@ -1,10 +1,12 @@
 -- Moments of calls in a row, by the answer of the last one.
-use Rattle.std.proofs.Common.{◌≡◌, ◌⊎◌, ℕ, ◌+◌, ◌<◌, ◌^◌, ◌-◌, Bool, true, List, [], ◌∷◌, length, Option, Some, None, Result, Ok, Err, IfSome, refl, sym, ap, ◌∙◌, subst, arith}
+use Rattle.std.proofs.Common.{◌≡◌, ◌⊎◌, inl, inr, ℕ, zero, suc, ◌+◌, ◌<◌, ◌≤◌, ◌-◌, Bool, true, List, [], ◌∷◌, length, drop, Option, Some, None, Result, Ok, Err, IfSome, refl, sym, ap, ◌∙◌, subst, arith}
+use Rattle.std.proofs.lemmas.Bool.{cases_lt}
 use Rattle.qls_site.specs.Content.{Moment, Content, Tells}
 use Rattle.qls_site.proofs.Told.{Tells-then, Tells-weaken}
-use Rattle.qls_pool.specs.Pools.{PoolState, IsSpent}
+use Rattle.qls_pool.specs.Pools.{PoolState}
 use Rattle.qls_pool.specs.Files.{HeadedFile, OnDisk, IsPoolOf, IsWholePool}
 use Rattle.qls_pool.specs.Moments.{Passes, Arrives}
+use Rattle.qls_pool.specs.Next.{IsEpochDue}
 use Rattle.qls_pool.specs.Serials.{DrawsTaken}
 use Rattle.qls_pool.proofs.Moments.{Arrives-then, Arrives-passes, Arrives-weaken, Passes-of, Passes-weaken, told_same}
 use Rattle.qls_pool.proofs.Serials.{drawn_then, drawn_none, tells_none}
@@ -13,7 +15,7 @@ use Rattle.qls_site.specs.Disk.{Disk}
 use Rattle.qls_meaning.specs.Journals.{Headed}
 use Rattle.qls_meaning.specs.Dead.{newest_number}
 use Rattle.qls_filehdr.specs.declared.FileHeader.{FileHeader}
-use Rattle.qls_log.specs.Logs.{LogState, IsSound, NumberedFrom, capacity_in}
+use Rattle.qls_log.specs.Logs.{LogState, IsSound, IsOfOpening, EndBefore, NumberedFrom, capacity_in}
 use Rattle.qls_log.specs.Standing.{files_on, AreThoseFiles, LogThere}
 use Rattle.qls_log.proofs.Gains.{below_those}
 use Rattle.qls_log.specs.declared.opening.Opening.{Opening}
@@ -112,16 +114,17 @@ told_stops o newest number at n pool (Some c) is less may last = stops o newest 
 
 -- ---- the first file
 
-may_first : (o : Opening) (pool : PoolState) (d : Disk) (fs : List Headed) → files_on o d ≡ fs → IsWholePool pool d → fs ≡ [] → MayTake o pool (0 + 1) d
-may_first o pool d fs is whole none = record {
+may_first : (o : Opening) (pool : PoolState) (d : Disk) (fs : List Headed) → o.epoch ≡ 1 → files_on o d ≡ fs → IsWholePool pool d → fs ≡ [] → MayTake o pool (0 + 1) d
+may_first o pool d fs first is whole none = record {
   whole = whole;
   next = ap (λ (gs : List Headed). newest_number gs + 1) (is ∙ none);
   lesser = subst (λ (gs : List Headed). AllByRecursion (λ f. f.header.number < 1) gs) (sym (is ∙ none)) tt;
+  due = subst (IsEpochDue o.epoch) (sym (is ∙ none)) first;
 }
 
-pub told_first : (o : Opening) (pool : PoolState) (a : Option Content) → IfSome a (OnDisk (IsWholePool pool)) → IfSome a (OnDisk (λ d. files_on o d ≡ [])) → IfSome a (OnDisk (MayTake o pool (0 + 1)))
-told_first o pool None whole none = tt
-told_first o pool (Some c) whole none = may_first o pool c.now.disk (files_on o c.now.disk) refl whole none
+pub told_first : (o : Opening) (pool : PoolState) (a : Option Content) → o.epoch ≡ 1 → IfSome a (OnDisk (IsWholePool pool)) → IfSome a (OnDisk (λ d. files_on o d ≡ [])) → IfSome a (OnDisk (MayTake o pool (0 + 1)))
+told_first o pool None first whole none = tt
+told_first o pool (Some c) first whole none = may_first o pool c.now.disk (files_on o c.now.disk) first refl whole none
 
 -- ---- the next file of a log
 
@@ -133,11 +136,45 @@ newest_those cap n newest (h ∷ []) (f ∷ g ∷ fs) some m t = absurd t.1
 newest_those cap n newest (h ∷ k ∷ hs) (f ∷ []) some m t = absurd t.1
 newest_those cap n newest (h ∷ k ∷ hs) (f ∷ g ∷ fs) some m t = newest_those cap (n + 1) newest (k ∷ hs) (g ∷ fs) (omega arith) m.1 t.1
 
+-- the newest of the files has this epoch, or the one before
+abbrev EndDue : ℕ → List HeadedFile → Type 0
+EndDue epoch [] = ⊥
+EndDue epoch (h ∷ []) = (h.header.epoch ≡ epoch) ⊎ (h.header.epoch + 1 ≡ epoch)
+EndDue epoch (h ∷ g ∷ hs) = EndDue epoch (g ∷ hs)
+
+due_before : (epoch : ℕ) (hs : List HeadedFile) → 0 < length hs → EndBefore epoch hs → EndDue epoch hs
+due_before epoch [] some e = absurd (omega (arith, some))
+due_before epoch (h ∷ []) some e = inr e
+due_before epoch (h ∷ g ∷ hs) some e = due_before epoch (g ∷ hs) (omega arith) e
+
+due_own : (o : Opening) (n : ℕ) (hs : List HeadedFile) → n < length hs → AllByRecursion (IsOfOpening o) (drop n hs) → EndDue o.epoch hs
+due_own o n [] less own = absurd (omega (arith, less))
+due_own o zero (h ∷ []) less own = inl (ap (λ (x : FileHeader). x.epoch) own.0)
+due_own o (suc n) (h ∷ []) less own = absurd (omega (arith, less))
+due_own o zero (h ∷ g ∷ hs) less own = due_own o zero (g ∷ hs) (omega arith) own.1
+due_own o (suc n) (h ∷ g ∷ hs) less own = due_own o n (g ∷ hs) (omega (arith, less)) own
+
+due_those : (cap epoch : ℕ) (hs : List HeadedFile) (fs : List Headed) → EndDue epoch hs → AreThoseFiles cap hs fs → IsEpochDue epoch fs
+due_those cap epoch [] fs e t = absurd e
+due_those cap epoch (h ∷ hs) [] e t = absurd t
+due_those cap epoch (h ∷ []) (f ∷ []) e t = subst (λ n. (n ≡ epoch) ⊎ (n + 1 ≡ epoch)) (sym (ap (λ (x : FileHeader). x.epoch) t.0.header)) e
+due_those cap epoch (h ∷ []) (f ∷ g ∷ fs) e t = absurd t.1
+due_those cap epoch (h ∷ k ∷ hs) (f ∷ []) e t = absurd t.1
+due_those cap epoch (h ∷ k ∷ hs) (f ∷ g ∷ fs) e t = due_those cap epoch (k ∷ hs) (g ∷ fs) e t.1
+
+due_sound : (cap : ℕ) (l : LogState) (fs : List Headed) → IsSound l → AreThoseFiles cap l.files fs → IsEpochDue l.opening.epoch fs
+due_sound cap l fs sound t = due_those cap l.opening.epoch l.files fs (by (cases_lt l.older (length l.files))) t
+  where
+    by : (l.older < length l.files) ⊎ (length l.files ≤ l.older) → EndDue l.opening.epoch l.files
+    by (inl less) = due_own l.opening l.older l.files less sound.own
+    by (inr more) = due_before l.opening.epoch l.files sound.some (sound.next (omega (arith, more, sound.older)))
+
 may_of : (l : LogState) (pool : PoolState) (d : Disk) → IsSound l → LogThere l d → IsPoolOf pool [] d → MayTake l.opening pool (l.newest + 1) d
 may_of l pool d sound there p = record {
   whole = (there.there.differ, p);
   next = ap (λ n. n + 1) (newest_those (capacity_in l.opening) (l.newest + 1 - length l.files) l.newest l.files (files_on l.opening d) sound.some sound.numbers there.there.files);
   lesser = (below_those (capacity_in l.opening) (l.newest + 1 - length l.files) l.newest l.files (files_on l.opening d) sound.numbers there.there.files).1;
+  due = due_sound (capacity_in l.opening) l (files_on l.opening d) sound there.there.files;
 }
 
 pub told_may : (l : LogState) (pool : PoolState) (a : Option Content) → IsSound l → IfSome a (OnDisk (LogThere l)) → IfSome a (OnDisk (IsPoolOf pool [])) → IfSome a (OnDisk (MayTake l.opening pool (l.newest + 1)))

@@ -39,6 +39,7 @@ pub mod SoundBatch
 pub mod Sound
 pub mod SoundDisk
 pub mod Returns
+pub mod Leaves
 pub mod Trims
 pub mod Releases
 pub mod SoundLess

@@ -23,6 +23,7 @@ use Rattle.qls_pool.specs.Files.{BlankFile, HeadedFile, HeadsBlank, IsHeaded, Id
 use Rattle.qls_pool.specs.Taking.{Obtains, TakesBlank, DrawsSerial, Heads, created, header_written, header_synced, put_in_use}
 use Rattle.qls_pool.specs.Discipline.{IsLeastOnDisk}
 use Rattle.qls_pool.specs.Moments.{Chain, Passes, Arrives}
+use Rattle.qls_pool.specs.Next.{IsEpochDue}
 use Rattle.qls_pool.specs.Serials.{serials_taken, taken_since, TakesNone, DrawsTaken}
 use Rattle.qls_pool.proofs.Calls.{headed_there, heads_least}
 use Rattle.qls_pool.proofs.Came.{none_came, none_same, none_change, none_create, link_came}
@@ -133,6 +134,7 @@ pub record IsHanded (o : Opening) (b : BlankFile) (number : ℕ) (m : Moment) : 
   pub there : BlankThere b m.disk
   pub least : IsLeastOnDisk b.home.part b.home.kib b.id m.disk
   pub next : newest_number (files_on o m.disk) + 1 ≡ number
+  pub due : IsEpochDue o.epoch (files_on o m.disk)
 
 -- the header names the journal, and the file's pool and serial
 pub record IsOwnHeader (o : Opening) (b : BlankFile) (header : FileHeader) : Type 0 where
@@ -224,6 +226,7 @@ module _ (o : Opening) (b : BlankFile) (header : FileHeader) (own : IsOwnHeader 
         part = own.part;
         kib = own.kib;
         epoch = own.epoch;
+        due = subst (IsEpochDue o.epoch) (sym files_second) is.due;
         number = sym is.next ∙ ap (λ (fs : List Headed). newest_number fs + 1) (sym files_second);
       }
 
@@ -319,6 +322,7 @@ module _ (o : Opening) (b : BlankFile) (header : FileHeader) (own : IsOwnHeader 
       there = blank_there o.home pool new_pool b [] x y at_home handed obtains may.whole.1;
       least = subst (λ (p : PoolId). IsLeastOnDisk p.part p.kib b.id y.now.disk) (sym at_home) (blank_least o.home pool new_pool b.id x y handed obtains may.whole);
       next = ap (λ (fs : List Headed). newest_number fs + 1) (files-same o x.now.disk y.now.disk (obtained_heads o pool x y obtains)) ∙ may.next;
+      due = subst (IsEpochDue o.epoch) (sym (files-same o x.now.disk y.now.disk (obtained_heads o pool x y obtains))) may.due;
     }
 
     pub told_head_failed : (e : SiteError) (a y z : Option Content) → IfSome a (OnDisk (MayTake o pool header.number)) → Tells (Obtains o.home pool.greatest (least_id o.home pool.files)) a y
@@ -424,7 +428,7 @@ may_at o pool m n a e h = subst (λ k. IfSome a (OnDisk (MayTake o pool k))) (sy
 
 -- ---- the next file
 
-newest_push : (fs : List Headed) (f : Headed) → newest_number (fs ++ f ∷ []) ≡ f.header.number
+pub newest_push : (fs : List Headed) (f : Headed) → newest_number (fs ++ f ∷ []) ≡ f.header.number
 newest_push [] f = refl
 newest_push (g ∷ []) f = refl
 newest_push (g ∷ k ∷ fs) f = newest_push (k ∷ fs) f
@@ -433,8 +437,13 @@ lesser_push : (n : ℕ) (fs : List Headed) (f : Headed) → AllByRecursion (λ g
 lesser_push n [] f h e = (omega (arith, e), tt)
 lesser_push n (g ∷ fs) f h e = (omega (arith, h.0), lesser_push n fs f h.1 e)
 
+due_push : (epoch : ℕ) (fs : List Headed) (f : Headed) → f.header.epoch ≡ epoch → IsEpochDue epoch (fs ++ f ∷ [])
+due_push epoch [] f e = inl e
+due_push epoch (g ∷ []) f e = inl e
+due_push epoch (g ∷ k ∷ fs) f e = due_push epoch (k ∷ fs) f e
+
 module _ (o : Opening) (pool left : PoolState) (h : HeadedFile) (legal : IsTrue (is_legal_header h.header)) (part : h.header.part ≡ o.home.part) (kib : h.header.kib ≡ o.home.kib)
-    (kind : h.header.kind ≡ o.kind) (name : h.header.name ≡ o.name) where
+    (kind : h.header.kind ≡ o.kind) (name : h.header.name ≡ o.name) (epoch : h.header.epoch ≡ o.epoch) where
   next_after : (a b : Content) → TakesFile o.home pool left h a b → MayTake o pool h.header.number a.now.disk → MayTake o left (h.header.number + 1) b.now.disk
   next_after a b t may =
       let more = journal_after o.home pool left h a b t legal part kib o may.whole kind name refl may.lesser in
@@ -443,6 +452,7 @@ module _ (o : Opening) (pool left : PoolState) (h : HeadedFile) (legal : IsTrue 
         whole = (ids_after o.home pool left h a b t legal part kib may.whole, pool_after o.home pool left h a b t legal part kib may.whole.1);
         next = ap (λ (fs : List Headed). newest_number fs + 1) more.files ∙ ap (λ n. n + 1) (newest_push (files_on o a.now.disk) more.file ∙ number);
         lesser = subst (λ (fs : List Headed). AllByRecursion (λ g. g.header.number < h.header.number + 1) fs) (sym more.files) (lesser_push h.header.number (files_on o a.now.disk) more.file may.lesser number);
+        due = subst (IsEpochDue o.epoch) (sym more.files) (due_push o.epoch (files_on o a.now.disk) more.file (ap (λ (x : FileHeader). x.epoch) more.is.header ∙ epoch));
       }
 
   pub told_next : (number : ℕ) → h.header.number ≡ number → (a b : Option Content) → Tells (TakesFile o.home pool left h) a b → IfSome a (OnDisk (MayTake o pool number)) → IfSome b (OnDisk (MayTake o left (number + 1)))

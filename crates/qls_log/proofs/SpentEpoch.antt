@@ -1,11 +1,11 @@
 -- An opening with the epoch past the last: the journal has no file of it.
-use Rattle.std.proofs.Common.{◌≡◌, ℕ, zero, suc, ◌+◌, ◌-◌, ◌^◌, ◌<◌, ◌≤◌, Bool, true, false, not, ◌&&◌, ◌==◌, nat_lt, List, [], ◌∷◌, length, take, drop, Option, Some, None, IfSome, IsTrue, refl, sym, ap, ap₂, ◌∙◌, subst, arith, length-drop, ltb-true, max}
+use Rattle.std.proofs.Common.{◌≡◌, ℕ, zero, suc, ◌+◌, ◌-◌, ◌^◌, ◌<◌, ◌≤◌, true, not, ◌&&◌, ◌==◌, nat_lt, List, [], ◌∷◌, length, take, drop, Option, Some, None, IfSome, IsTrue, refl, sym, ap, ap₂, ◌∙◌, subst, arith, length-drop, ltb-true, max}
 use Rattle.std.proofs.Math.Nat.{max-zero, max_comm, max-eq_left}
 use Rattle.std.proofs.lemmas.Bool.{and_parts}
 use Rattle.std.proofs.lemmas.Bool.Decides.{nat_tests}
 use Rattle.std.specs.List.{AllByRecursion}
 use Rattle.qls_site.specs.Disk.{Disk}
-use Rattle.qls_site.specs.Content.{Content, Tells}
+use Rattle.qls_site.specs.Content.{Content}
 use Rattle.qls_filehdr.specs.declared.FileHeader.{FileHeader}
 use Rattle.qls_filehdr.specs.Limits.{is_counter, is_legal_header}
 use Rattle.qls_filehdr.proofs.HeaderTrip.{legal_parts}

@@ -1,10 +1,10 @@
 -- The log that is left of a journal without its newest files.
-use Rattle.std.proofs.Common.{◌≡◌, inr, ℕ, zero, suc, ◌+◌, ◌-◌, ◌*◌, ◌<◌, ◌≤◌, ◌^◌, Bool, true, false, ◌==◌, List, [], ◌∷◌, length, take, drop, Option, Some, None, IfSome, IsTrue, Result, Ok, Err, slice_index_or, refl, sym, ap, ap₂, ◌∙◌, subst, arith, length-take, ltb-true}
+use Rattle.std.proofs.Common.{◌≡◌, inr, ℕ, zero, suc, ◌+◌, ◌-◌, ◌*◌, ◌<◌, ◌≤◌, ◌^◌, Bool, true, false, ◌==◌, List, [], ◌∷◌, length, take, drop, Option, Some, None, IfSome, IsTrue, Result, Ok, Err, slice_index_or, refl, sym, ap, ◌∙◌, subst, arith, length-take, ltb-true}
 use Rattle.std.proofs.lemmas.Bool.{and_parts}
 use Rattle.std.specs.List.{AllByRecursion}
 use Rattle.qls_model.specs.declared.machine.PoolId.{PoolId}
 use Rattle.qls_site.specs.declared.site.SiteError.{SiteError}
-use Rattle.qls_site.specs.Disk.{Disk}
+use Rattle.qls_site.specs.Disk.{IsQuiet}
 use Rattle.qls_site.specs.Content.{Content, Tells}
 use Rattle.qls_site.proofs.Told.{Tells-weaken}
 use Rattle.qls_filehdr.specs.declared.FileHeader.{FileHeader}
@@ -13,25 +13,22 @@ use Rattle.qls_filehdr.specs.Limits.{is_counter, is_legal_header, is_name}
 use Rattle.qls_model.specs.Limits.{is_partition, is_kib}
 use Rattle.qls_filehdr.proofs.HeaderTrip.{legal_parts, most_of}
 use Rattle.qls_meaning.specs.Journals.{Headed}
-use Rattle.qls_meaning.specs.Reading.{epoch_end, journal_reading}
+use Rattle.qls_meaning.specs.Reading.{epoch_end}
 use Rattle.qls_meaning.specs.Dead.{past_files}
 use Rattle.qls_meaning.specs.Orderly.{journal_on}
 use Rattle.qls_pool.specs.Pools.{PoolState}
-use Rattle.qls_pool.specs.Files.{HeadedFile, OnDisk, IsWholePool}
-use Rattle.qls_pool.specs.Moments.{EndsIn}
-use Rattle.qls_pool.specs.Serials.{TakesNone}
+use Rattle.qls_pool.specs.Files.{HeadedFile, OnDisk, IsWholePool, Carries}
 use Rattle.qls_log.specs.declared.opening.Opening.{Opening}
 use Rattle.qls_log.specs.declared.fault.LogError.{LogError}
 use Rattle.qls_log.specs.Faults.{fault_of_site}
-use Rattle.qls_log.specs.Logs.{LogState, IsLegalOpening, IsOfJournal, EndBefore, NumberedFrom, capacity_in}
-use Rattle.qls_log.specs.Standing.{AreThoseFiles, LogThere, LastIsUnmarked, files_on, end_of}
-use Rattle.qls_log.specs.Steps.{IsLogStep, GoesBy, GoesOwn, PassesOwn}
+use Rattle.qls_log.specs.Logs.{LogState, IsOfJournal, EndBefore, NumberedFrom, capacity_in}
+use Rattle.qls_log.specs.Standing.{AreThoseFiles, LogThere, LastIsUnmarked, files_on}
+use Rattle.qls_log.specs.Steps.{GoesOwn, PassesOwn}
 use Rattle.qls_log.specs.Returning.{GivesBack}
 use Rattle.qls_log.specs.Appending.{LeavesOthers}
-use Rattle.qls_log.specs.Reads.{IsRead}
 use Rattle.qls_log.specs.Soundness.{IsUndamaged}
 use Rattle.qls_log.specs.Reopening.{reopened, MayReopen}
-use Rattle.qls_log.specs.Trimming.{newest_first, without_last, last_epoch, last_number, EpochsRise, CountFrom, AreInRow, MayTrim, Trims, opened_behind, GivesNewest, ReadsTheSame}
+use Rattle.qls_log.specs.Trimming.{without_last, last_epoch, last_number, EpochsRise, CountFrom, AreInRow, MayTrim, Trims, opened_behind, GivesNewest, ReadsTheSame}
 use Rattle.qls_log.proofs.Older.{those_count}
 use Rattle.qls_log.proofs.Releases.{answered_arrives}
 
@@ -236,6 +233,11 @@ module _ (o : Opening) (left : PoolState) (kept : List HeadedFile) (newest rid :
   told_pool_left None (Some y) t = absurd t
   told_pool_left (Some x) None t = absurd t
   told_pool_left (Some x) (Some y) t = (t.may.there.differ, t.may.spare)
+
+  pub told_quiet_left : (a b : Option Content) → Tells (Trims o left kept 0 rid done) a b → Carries IsQuiet IsQuiet a b
+  told_quiet_left None b t = tt
+  told_quiet_left (Some x) None t = tt
+  told_quiet_left (Some x) (Some y) t = t.quiet
 
   pub told_others_left : (a b : Option Content) → Tells (Trims o left kept 0 rid done) a b → Tells (LeavesOthers done) a b
   told_others_left a b t = Tells-weaken (Trims o left kept 0 rid done) (LeavesOthers done) a b t (λ x y r. record { files = r.others; answered = answered_arrives o x y r.arrives })

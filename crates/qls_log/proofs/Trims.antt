@@ -1,25 +1,25 @@
 -- A file past the reading goes back to its pool, and then the others.
-use Rattle.std.proofs.Common.{◌≡◌, ℕ, zero, suc, ◌+◌, ◌-◌, ◌<◌, ◌≤◌, Bool, true, false, ◌||◌, ◌==◌, List, [], ◌∷◌, ◌++◌, map, length, take, drop, Option, Some, None, IfSome, IsErr, IsTrue, Result, Ok, Err, refl, sym, ap, ap₂, ◌∙◌, subst, arith, append_assoc, append-nil, length-append}
-use Rattle.std.specs.List.{AllByRecursion}
+use Rattle.std.proofs.Common.{◌≡◌, inl, inr, ℕ, zero, suc, ◌+◌, ◌-◌, ◌<◌, ◌≤◌, Bool, true, false, ◌||◌, ◌==◌, List, [], ◌∷◌, ◌++◌, map, length, take, drop, Option, Some, None, IfSome, IsTrue, Ok, Err, refl, sym, ap, ap₂, ◌∙◌, subst, arith, append_assoc, append-nil, length-append}
+use Rattle.std.specs.List.{AllByRecursion, list_any}
 use Rattle.qls_site.specs.declared.site.SiteError.{SiteError}
 use Rattle.qls_site.specs.declared.site.SiteError.TheVariants.{Failed, Memory}
 use Rattle.qls_site.specs.declared.site.Place.TheVariants.{Empty}
-use Rattle.qls_site.specs.Disk.{Disk, FileState, file_of, full_file, all_written, bytes_at, seen_bytes}
+use Rattle.qls_site.specs.Disk.{Disk, FileState, IsQuiet, file_of, full_file, all_written, bytes_at, seen_bytes}
 use Rattle.qls_site.specs.Content.{Moment, Content, Tells, Acts, MayAct, Leads}
 use Rattle.qls_site.proofs.Told.{Tells-weaken}
 use Rattle.qls_filehdr.specs.declared.FileHeader.{FileHeader}
 use Rattle.qls_filehdr.specs.Header.{header_spelling}
 use Rattle.qls_filehdr.specs.Limits.{is_legal_header}
-use Rattle.qls_meaning.specs.Journals.{Headed, Journal, headed, is_in_use, is_of}
+use Rattle.qls_meaning.specs.Journals.{Headed, Journal, headed, is_in_use, is_of, epochs}
 use Rattle.qls_meaning.specs.Reading.{journal_reading}
 use Rattle.qls_meaning.specs.Damage.{oldest_rid}
-use Rattle.qls_meaning.specs.Dead.{past_files}
+use Rattle.qls_meaning.specs.Dead.{newest_number, past_in, past_files}
 use Rattle.qls_meaning.specs.Spent.{rid_of_reads}
 use Rattle.qls_meaning.specs.Orderly.{journal_on}
 use Rattle.qls_meaning.specs.History.{newly_used}
 use Rattle.qls_laws.specs.Undamaged.{BreaksNoRule}
 use Rattle.qls_epochs.specs.Trims.{without_newest}
-use Rattle.qls_epochs.proofs.Trimmed.{Snoc, snoc, trimmed_past, trimmed_reading, trimmed_rules}
+use Rattle.qls_epochs.proofs.Trimmed.{snoc, files_less, trimmed_past, trimmed_reading, trimmed_rules}
 use Rattle.qls_pool.specs.Pools.{PoolState}
 use Rattle.qls_pool.specs.Files.{HeadedFile, IsLinked, IsAtRest, LinkedThere, RestsThere, IsPoolOf, HasPool, OnDisk, Carries, is_among}
 use Rattle.qls_pool.specs.Taking.{put_back}
@@ -27,15 +27,18 @@ use Rattle.qls_pool.specs.Moments.{Passes, Arrives, EndsIn}
 use Rattle.qls_pool.specs.Serials.{serials_taken, taken_since}
 use Rattle.qls_pool.proofs.Came.{none_came, none_same, none_back}
 use Rattle.qls_pool.proofs.Disks.{eqb_own}
-use Rattle.qls_pool.proofs.Moments.{Arrives-then, Arrives-passes, Arrives-acts, Arrives-same, Passes-of, Passes-may, since_of, since_is}
+use Rattle.qls_pool.proofs.Moments.{Arrives-then, Arrives-passes, Arrives-acts, Arrives-same, Passes-of, Passes-same, Passes-may, since_of, since_is}
 use Rattle.qls_pool.proofs.Serials.{taken_then}
 use Rattle.qls_pool.proofs.Steps.{differ_change, back_step}
 use Rattle.qls_log.specs.declared.opening.Opening.{Opening}
-use Rattle.qls_log.specs.Logs.{IsOfJournal, capacity_in, ids}
+use Rattle.qls_log.specs.Logs.{IsOfJournal, capacity_in}
 use Rattle.qls_log.specs.Standing.{HasFiles, AreApart, AreThoseFiles, RestsBut, files_on}
+use Rattle.qls_log.specs.Leaving.{LeavesInOrder, LeavesFromQuiet}
 use Rattle.qls_log.specs.Steps.{IsLogStep, PassesOwn}
 use Rattle.qls_log.specs.Returning.{with_backs, StopsBack}
 use Rattle.qls_log.specs.Trimming.{newest_first, EpochsRise, CountFrom, AreInRow, MayTrim, Trims}
+use Rattle.qls_log.proofs.Leaves.{leaves_none, leaves_one, quiet_without}
+use Rattle.qls_log.proofs.Making.{newest_push}
 use Rattle.qls_log.proofs.OwnSteps.{own_same, own_step, back_changes}
 use Rattle.qls_log.proofs.OwnWrites.{own_one}
 use Rattle.qls_log.proofs.Splits.{IsOrBelow, files-unlinked_last, split}
@@ -121,6 +124,14 @@ those_below size n (k ∷ hs) h (f ∷ fs) m t =
     let number : f.header.number ≡ n = ap (λ (x : FileHeader). x.number) t.0.header ∙ m.0 in
     let newest : h.header.number ≡ n + 1 + length hs = number_last (n + 1) hs h m.1 in
     (λ same. omega (arith, number, newest), those_below size (n + 1) hs h fs m.1 t.1)
+
+among_last : (ps : List Headed) (f : Headed) → list_any (λ g. g.id == f.id) (ps ++ f ∷ []) ≡ true
+among_last [] f = ap (λ b. b || false) (eqb_own f.id)
+among_last (p ∷ ps) f = ap (λ b. (p.id == f.id) || b) (among_last ps f) ∙ or_true (p.id == f.id)
+  where
+    or_true : (b : Bool) → (b || true) ≡ true
+    or_true true = refl
+    or_true false = refl
 
 oldest_front : (fs : List Headed) (g : Headed) → 0 < length fs → oldest_rid (fs ++ g ∷ []) ≡ oldest_rid fs
 oldest_front [] g some = absurd (omega (arith, some))
@@ -250,6 +261,21 @@ module _ (o : Opening) (pool left : PoolState) (hs : List HeadedFile) (h : Heade
   none_back_one : newly_used x.now after ≡ []
   none_back_one = none_came x.now after (none_back h.id homed (λ f. refl) (λ f. refl) x.now may.there.differ)
 
+  rests_own : IsAtRest h (Some found.0)
+  rests_own = subst (IsAtRest h) found.1 ((last_all (λ g. is_among g.id [] ≡ false → RestsThere g d) hs h may.rests).1 refl)
+
+  -- it is the journal's newest file, and lies past the reading
+  leaves_back : IsQuiet d → LeavesInOrder x.now after
+  leaves_back quiet =
+      let f : Headed = headed (full_file found.0) in
+      let same : f ≡ newest.newest = (files_less (files_on o after.disk) f newest.front newest.newest (ap (λ (fs : List Headed). past_in true (epochs fs)) (sym unlinked) ∙ newest.is)).same in
+      leaves_one o h x.now found.0 quiet may.there.differ found.1 rests_own legal (last_all (IsOfJournal o) hs h row.own).1
+      (inr (inl (
+        sym (ap newest_number unlinked ∙ newest_push (files_on o after.disk) f),
+        subst (λ (ps : List Headed). list_any (λ g. g.id == f.id) ps ≡ true) (sym newest.is)
+            (subst (λ (g : Headed). list_any (λ p. p.id == f.id) (newest.front ++ g ∷ []) ≡ true) same (among_last newest.front f)),
+      )))
+
   -- it went back
   pub trims_one : (y : Content) → Acts (put_back h.id h.header) x y → IsPoolOf left [] y.now.disk → Trims o left hs k rid (h ∷ []) x y
   trims_one y acts p =
@@ -261,6 +287,8 @@ module _ (o : Opening) (pool left : PoolState) (hs : List HeadedFile) (h : Heade
         others = λ id e. ap (λ (c : Content). file_of id c.now.disk) acts ∙ others_found id (Rattle.qls_log.proofs.Returns.turned_off h.id id e);
         reading = ap (λ (c : Content). journal_reading (journal_on c.now.disk o.kind o.name)) acts ∙ reading;
         may = subst (λ (c : Content). MayTrim o left hs k rid c.now.disk) (sym acts) (may_after (subst (λ (c : Content). IsPoolOf left [] c.now.disk) acts p));
+        leaves = λ quiet. Arrives-acts LeavesInOrder (put_back h.id h.header) x y (leaves_back quiet) acts;
+        quiet = λ quiet. subst (λ (c : Content). IsQuiet c.now.disk) (sym acts) (quiet_without h d quiet);
       }
 
   -- it may have
@@ -278,12 +306,16 @@ module _ (o : Opening) (pool left : PoolState) (hs : List HeadedFile) (h : Heade
             ∙ ap (λ (fs : List Headed). map (λ f. f.header.serial) fs ++ []) none_back_one;
       }
 
+  pub trim_stopped_leaves : (e : SiteError) (y : Content) → Leads {X = Unit {0}} (Acts (put_back h.id h.header)) (MayAct (put_back h.id h.header)) (Err e) x y → LeavesFromQuiet x y
+  trim_stopped_leaves Memory y same = λ quiet. Passes-same LeavesInOrder x y same
+  trim_stopped_leaves Failed y acts = λ quiet. Passes-may LeavesInOrder (put_back h.id h.header) x y (leaves_none x.now may.there.differ) (leaves_back quiet) acts
+
 -- ---- in a row
 
 pub trims_none : (o : Opening) (pool : PoolState) (hs : List HeadedFile) (k rid : ℕ) (x : Content) → MayTrim o pool hs k rid x.now.disk → Trims o pool hs k rid [] x x
 trims_none o pool hs k rid x may =
     let arrives : Arrives (IsLogStep o) x x = Arrives-same (IsLogStep o) x x refl in
-    record { told = refl; arrives = arrives; none = ap (serials_taken x.now) (since_of (IsLogStep o) x x arrives); others = λ id e. refl; reading = refl; may = may }
+    record { told = refl; arrives = arrives; none = ap (serials_taken x.now) (since_of (IsLogStep o) x x arrives); others = λ id e. refl; reading = refl; may = may; leaves = λ quiet. Arrives-same LeavesInOrder x x refl; quiet = λ quiet. quiet }
 
 pub trims_then : (o : Opening) (between left : PoolState) (hs gs : List HeadedFile) (m n rid : ℕ) (done more : List HeadedFile) (x y z : Content) → Trims o between hs m rid done x y → Trims o left gs n rid more y z → Trims o left gs n rid (done ++ more) x z
 trims_then o between left hs gs m n rid done more x y z h k = record {
@@ -293,6 +325,8 @@ trims_then o between left hs gs m n rid done more x y z h k = record {
   others = λ id e. let both = among_parts id done more e in k.others id both.1 ∙ h.others id both.0;
   reading = k.reading ∙ h.reading;
   may = k.may;
+  leaves = λ quiet. Arrives-then LeavesInOrder x y z (h.leaves quiet) (k.leaves (h.quiet quiet));
+  quiet = λ quiet. k.quiet (h.quiet quiet);
 }
 
 pub trim_stopped_then : (o : Opening) (between : PoolState) (hs : List HeadedFile) (m rid : ℕ) (done : List HeadedFile) (x y z : Content) → Trims o between hs m rid done x y → PassesOwn o y z → PassesOwn o x z
@@ -353,12 +387,13 @@ module _ (pool between left : PoolState) (many : ℕ) (hs : List HeadedFile) (k 
           trims_then o between left (kept ++ h ∷ []) kept (suc k) k rid s.0 (h ∷ []) x y z w (trims_one o between left kept h k rid y row w.may z t (p [] refl w.may.spare))
 
   pub trim_fails : (e : SiteError) (a b n : Option Content) → TrimSo pool between many hs (suc k) (kept ++ h ∷ []) a b → Tells (Leads {X = Unit {0}} (Acts (put_back h.id h.header)) (MayAct (put_back h.id h.header)) (Err e)) b n
-      → (o : Opening) (rid : ℕ) → AreInRow o hs → IfSome a (OnDisk (MayTrim o pool hs many rid)) → Tells (PassesOwn o) a n × Tells (StopsBack (newest_first many hs) e) a n
+      → (o : Opening) (rid : ℕ) → AreInRow o hs → IfSome a (OnDisk (MayTrim o pool hs many rid))
+      → Tells (PassesOwn o) a n × Tells (StopsBack (newest_first many hs) e) a n × Tells LeavesFromQuiet a n
   trim_fails e a b n s t o rid row may = let was = s.2 o rid row may in on a b n was.1 t
     where
       on : (a b n : Option Content) → Tells (Trims o between (kept ++ h ∷ []) (suc k) rid s.0) a b → Tells (Leads {X = Unit {0}} (Acts (put_back h.id h.header)) (MayAct (put_back h.id h.header)) (Err e)) b n
-          → Tells (PassesOwn o) a n × Tells (StopsBack (newest_first many hs) e) a n
-      on None None None w t = (tt, tt)
+          → Tells (PassesOwn o) a n × Tells (StopsBack (newest_first many hs) e) a n × Tells LeavesFromQuiet a n
+      on None None None w t = (tt, tt, tt)
       on None None (Some z) w t = absurd t
       on None (Some y) n w t = absurd w
       on (Some x) None n w t = absurd w
@@ -372,6 +407,7 @@ module _ (pool between left : PoolState) (many : ℕ) (hs : List HeadedFile) (k 
           is = s.1 ∙ ap (λ (xs : List HeadedFile). s.0 ++ xs) (newest_snoc k kept h);
           fails = subst (λ (c : Content). Leads {X = Unit {0}} (Acts (put_back h.id h.header)) (MayAct (put_back h.id h.header)) (Err e) c z) w.told t;
         },
+        λ quiet. Arrives-passes LeavesInOrder x y z (w.leaves quiet) (trim_stopped_leaves o between left kept h k rid y (s.2 o rid row may).0 w.may e z t (w.quiet quiet)),
       )
 
 take_twice : (k m : ℕ) (hs : List HeadedFile) → k ≤ m → take k (take m hs) ≡ take k hs
@@ -395,3 +431,7 @@ trim_done E pool left many rest hs kept v a b none s o rid row may =
 
 pub trim_told : (o : Opening) (left : PoolState) (kept : List HeadedFile) (many rid : ℕ) (done : List HeadedFile) (a b : Option Content) → Tells (Trims o left kept many rid done) a b → Tells (λ x y. y ≡ with_backs done x) a b
 trim_told o left kept many rid done a b t = Tells-weaken (Trims o left kept many rid done) (λ x y. y ≡ with_backs done x) a b t (λ x y r. r.told)
+
+-- they left in order
+pub trim_leaves : (o : Opening) (left : PoolState) (kept : List HeadedFile) (many rid : ℕ) (done : List HeadedFile) (a b : Option Content) → Tells (Trims o left kept many rid done) a b → Tells LeavesFromQuiet a b
+trim_leaves o left kept many rid done a b t = Tells-weaken (Trims o left kept many rid done) LeavesFromQuiet a b t (λ x y r quiet. Passes-of LeavesInOrder x y (r.leaves quiet))

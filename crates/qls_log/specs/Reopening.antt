@@ -1,5 +1,5 @@
 -- A log of a journal all of whose files were taken in earlier openings.
-use Rattle.std.specs.Prelude.{◌≡◌, ℕ, ◌+◌, ◌-◌, ◌^◌, ◌<◌, ◌≤◌, false, List, [], length, IsTrue}
+use Rattle.std.specs.Prelude.{ℕ, ◌+◌, ◌-◌, ◌^◌, ◌<◌, ◌≤◌, false, List, [], length, IsTrue}
 use Rattle.std.specs.List.{AllByRecursion}
 use Rattle.qls_filehdr.specs.Limits.{is_legal_header}
 use Rattle.qls_pool.specs.Files.{HeadedFile}

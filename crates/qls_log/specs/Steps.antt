@@ -12,7 +12,7 @@ use Rattle.qls_meaning.specs.Dead.{newest_number}
 use Rattle.qls_meaning.specs.Orderly.{journal_on}
 use Rattle.qls_pool.specs.Discipline.{IsPoolStep}
 use Rattle.qls_pool.specs.Files.{IdsDiffer, OnDisk}
-use Rattle.qls_pool.specs.Next.{HeadersStay}
+use Rattle.qls_pool.specs.Next.{IsEpochDue, HeadersStay}
 use Rattle.qls_pool.specs.Moments.{Passes, Arrives, EndsIn}
 use Rattle.qls_pool.specs.Serials.{TakesNone}
 use Rattle.qls_log.specs.declared.opening.Opening.{Opening}
@@ -32,7 +32,8 @@ is_own o kind name = same_kind o.kind kind && same o.name name
 
 -- ---- a file of the journal that comes into use
 
--- a legal header of this journal, this pool and this epoch, with the number after that of the journal's newest file
+-- a legal header of this journal, this pool and this epoch, which is due behind the journal's files, with the number after that of the
+-- newest of them
 pub record IsOwnNext (o : Opening) (m : Moment) (g : FileState) (header : FileHeader) : Type 0 where
   pub legal : header_of (take 4096 g.stable) ≡ Ok header
   pub kind : header.kind ≡ o.kind
@@ -40,6 +41,7 @@ pub record IsOwnNext (o : Opening) (m : Moment) (g : FileState) (header : FileHe
   pub part : header.part ≡ o.home.part
   pub kib : header.kib ≡ o.home.kib
   pub epoch : header.epoch ≡ o.epoch
+  pub due : IsEpochDue o.epoch (journal_on m.disk o.kind o.name).files
   pub number : header.number ≡ newest_number (journal_on m.disk o.kind o.name).files + 1
 
 abbrev pub TakesOwn : Opening → Moment → Option FileState → FileState → Type 0

@@ -9,6 +9,7 @@ use Rattle.qls_blocks.specs.declared.plan.FreshFile.{FreshFile}
 use Rattle.qls_pool.specs.Pools.{PoolState, HandsOut, IsSpent, least_id}
 use Rattle.qls_pool.specs.Files.{HeadedFile, IsWholePool}
 use Rattle.qls_pool.specs.Taking.{Obtains, Heads, put_in_use}
+use Rattle.qls_pool.specs.Next.{IsEpochDue}
 use Rattle.qls_site.specs.Disk.{Disk}
 use Rattle.qls_meaning.specs.Dead.{newest_number}
 use Rattle.qls_log.specs.declared.opening.Opening.{Opening}
@@ -48,11 +49,12 @@ pub record MeetsEnd (o : Opening) (newest n : ℕ) (pool : PoolState) : Type 0 w
   pub fewer : taken < n
   pub last : NoneNext o (newest + taken) pool
 
--- the pool is the site's, and a file with this number is the next one of the journal
+-- the pool is the site's, and a file with this number is the next one of the journal, whose epoch is due
 pub record MayTake (o : Opening) (pool : PoolState) (number : ℕ) (d : Disk) : Type 0 where
   pub whole : IsWholePool pool d
   pub next : newest_number (files_on o d) + 1 ≡ number
   pub lesser : AllByRecursion (λ f. f.header.number < number) (files_on o d)
+  pub due : IsEpochDue o.epoch (files_on o d)
 
 -- so many files were taken, fewer than n, and the next one can't be had
 pub record StopsAfter (o : Opening) (newest n : ℕ) (pool : PoolState) (d : Disk) : Type 0 where

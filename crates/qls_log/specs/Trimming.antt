@@ -3,7 +3,7 @@ use Rattle.std.specs.Prelude.{◌≡◌, ◌⊎◌, ℕ, zero, suc, ◌+◌, ◌
 use Rattle.std.specs.List.{AllByRecursion}
 use Rattle.qls_model.specs.declared.machine.PoolId.{PoolId}
 use Rattle.qls_site.specs.declared.site.SiteError.{SiteError}
-use Rattle.qls_site.specs.Disk.{Disk, file_of}
+use Rattle.qls_site.specs.Disk.{Disk, IsQuiet, file_of}
 use Rattle.qls_filehdr.specs.declared.JournalKind.{JournalKind}
 use Rattle.qls_site.specs.Content.{Content}
 use Rattle.qls_filehdr.specs.Limits.{is_legal_header}
@@ -25,6 +25,7 @@ use Rattle.qls_log.specs.Logs.{LogState, IsOfJournal, ids}
 use Rattle.qls_log.specs.Reads.{IsRead}
 use Rattle.qls_log.specs.Standing.{HasFiles, RestsBut, files_on}
 use Rattle.qls_log.specs.Returning.{with_backs, StopsBack}
+use Rattle.qls_log.specs.Leaving.{LeavesInOrder}
 use Rattle.qls_log.specs.Steps.{IsLogStep}
 
 -- the newest files, so many, newest first
@@ -77,7 +78,8 @@ pub record MayTrim (o : Opening) (pool : PoolState) (hs : List HeadedFile) (many
   pub rules : BreaksNoRule (journal_on d o.kind o.name)
   pub rid : rid_of_reads (oldest_rid (files_on o d)) (journal_reading (journal_on d o.kind o.name)) ≡ in_force
 
--- the one files went back by the log's steps; the journal reads the same, and the others may be trimmed still
+-- the one files went back by the log's steps; the journal reads the same, and the others may be trimmed still. Where nothing was pending
+-- they left in order, and nothing is
 pub record Trims (o : Opening) (pool : PoolState) (hs : List HeadedFile) (many in_force : ℕ) (done : List HeadedFile) (old new : Content) : Type 0 where
   pub told : new ≡ with_backs done old
   pub arrives : Arrives (IsLogStep o) old new
@@ -85,6 +87,8 @@ pub record Trims (o : Opening) (pool : PoolState) (hs : List HeadedFile) (many i
   pub others : (id : ℕ) → is_among id (ids done) ≡ false → file_of id new.now.disk ≡ file_of id old.now.disk
   pub reading : journal_reading (journal_on new.now.disk o.kind o.name) ≡ journal_reading (journal_on old.now.disk o.kind o.name)
   pub may : MayTrim o pool hs many in_force new.now.disk
+  pub leaves : IsQuiet old.now.disk → Arrives LeavesInOrder old new
+  pub quiet : IsQuiet old.now.disk → IsQuiet new.now.disk
 
 -- ---- the log that is left
 

@@ -20,3 +20,5 @@ pub use spot::Spot;
 
 #[cfg(test)]
 mod tests;
+#[cfg(test)]
+mod trim_tests;

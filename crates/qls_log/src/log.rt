@@ -5,7 +5,7 @@ ghost use Rattle.qls_site.specs.Disk.{IsQuiet};
 ghost use Rattle.qls_pool.specs.Pools.{PoolState, IsSpent};
 ghost use Rattle.qls_pool.specs.Files.{HeadedFile, IsPoolOf, IsWholePool, OnDisk, Carries};
 ghost use Rattle.qls_pool.specs.Discipline.{Orderly};
-ghost use Rattle.qls_log.specs.Leaving.{NoneLeaves};
+ghost use Rattle.qls_log.specs.Leaving.{NoneLeaves, LeavesFromQuiet};
 ghost use Rattle.qls_pool.specs.Moments.{Passes};
 ghost use Rattle.qls_pool.specs.Serials.{DrawsTaken, TakesNone};
 ghost use Rattle.qls_blocks.specs.Batching.{laid_from, length_of, block_length};
@@ -209,6 +209,8 @@ impl Log {
         ensures went { Tells (GoesBy (IsLogStep (opened_behind kind name home (without_last past files.items))) result) (S.told site.old) (S.told site.new) }
         ensures none { Tells TakesNone (S.told site.old) (S.told site.new) }
         ensures writes { Tells WritesWell (S.told site.old) (S.told site.new) }
+        ensures leaves { Tells LeavesFromQuiet (S.told site.old) (S.told site.new) }
+        ensures quiet { IfOk result (λ _. Carries IsQuiet IsQuiet (S.told site.old) (S.told site.new)) }
         ensures cause { SiteCauses (S.faults site.old) (S.faults site.new) result }
         ensures syncs { S.syncs site.new ≡ S.syncs site.old }
         ensures reads { S.reads site.new ≡ S.reads site.old }

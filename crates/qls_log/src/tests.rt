@@ -25,13 +25,13 @@ use std::alloc::Global;
 use std::test::Fail;
 
 /// The pool of partition 1 whose files have 4 KiB of data.
-const HOME: PoolId = PoolId { part: 1, kib: 4 };
+pub(crate) const HOME: PoolId = PoolId { part: 1, kib: 4 };
 
 /// The place of its empty files.
 const EMPTY: Place = Place::Empty { part: 1, kib: 4 };
 
 /// The pools of a site without files.
-fn open_pools<S: Site>(alloc: Global, site: &mut S) -> Result<Pool, Fail>
+pub(crate) fn open_pools<S: Site>(alloc: Global, site: &mut S) -> Result<Pool, Fail>
     requires fits { IfSome (S.told site.old) (OnDisk (λ d. d ≡ [])) }
     ensures pool { IfOk result (λ pool. IfSome (S.told site.new) (OnDisk (IsWholePool pool))) }
     ensures free { IfOk result (λ _. IfSome (S.told site.new) (OnDisk (λ d. in_use (full d) ≡ []))) }
@@ -68,7 +68,7 @@ fn begin(alloc: Global, first: u64, second: u64) -> Result<MemSite, NoMemory>
 }
 
 /// The pools of a site with empty files.
-fn open_listed<S: Site>(alloc: Global, site: &mut S, greatest: u64) -> Result<Pool, Fail>
+pub(crate) fn open_listed<S: Site>(alloc: Global, site: &mut S, greatest: u64) -> Result<Pool, Fail>
     requires greatest { greatest < 2 ^ 62 }
     requires fits { IfSome (S.told site.old) (OnDisk (FitsPools greatest)) }
     requires free { IfSome (S.told site.old) (OnDisk (λ d. in_use (full d) ≡ [])) }
@@ -81,7 +81,7 @@ fn open_listed<S: Site>(alloc: Global, site: &mut S, greatest: u64) -> Result<Po
 }
 
 /// The queue `a`, on a site without a file in use.
-fn make<S: Site, N: Serials>(
+pub(crate) fn make<S: Site, N: Serials>(
     alloc: Global,
     site: &mut S,
     pool: &mut Pool,
@@ -152,7 +152,7 @@ fn magic_at(files: &Seq<ImageFile>, file: usize, at: usize) -> Option<u64> {
 
 /// Appends a batch of one enqueue, flushes it, and answers its spot. A batch is read then behind what was read before, and a
 /// journal that broke no damage rule breaks none.
-fn put<S: Site, N: Serials>(
+pub(crate) fn put<S: Site, N: Serials>(
     alloc: Global,
     log: &mut Log,
     site: &mut S,

@@ -5,6 +5,7 @@ ghost use Rattle.qls_pool.specs.Files.{OnDisk};
 ghost use Rattle.qls_pool.specs.Moments.{EndsIn};
 ghost use Rattle.qls_log.specs.declared.opening.Opening.{Opening};
 ghost use Rattle.qls_log.specs.Returning.{GivesBack};
+ghost use Rattle.qls_log.specs.Leaving.{LeavesFromQuiet};
 ghost use Rattle.qls_log.specs.Steps.{PassesOwn};
 ghost use Rattle.qls_log.specs.Trimming.{newest_first, without_last, last_epoch, last_number, AreInRow, MayTrim, Trims};
 
@@ -23,6 +24,7 @@ pub(crate) fn give_back_newest<S: Site>(
     ensures files { IfOk result (λ _. files.new.items ≡ without_last many files.old.items) }
     ensures told { Tells (GivesBack (newest_first many files.old.items) result) (S.told site.old) (S.told site.new) }
     ensures trims { (o : Opening) (rid : ℕ) → AreInRow o files.old.items → IfSome (S.told site.old) (OnDisk (MayTrim o pool.old files.old.items many rid)) → Tells (EndsIn (λ _. Trims o pool.new files.new.items 0 rid (newest_first many files.old.items)) (PassesOwn o) result) (S.told site.old) (S.told site.new) }
+    ensures leaves { Tells LeavesFromQuiet (S.told site.old) (S.told site.new) }
     ensures greatest { pool.new.greatest ≡ pool.old.greatest }
     ensures cause { Causes (S.faults site.old) (S.faults site.new) result }
     ensures syncs { S.syncs site.new ≡ S.syncs site.old }

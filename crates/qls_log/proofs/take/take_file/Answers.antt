@@ -172,7 +172,7 @@ returns-clause-next g c =
     let o : Opening = c.args.opening.now in
     let is : c.in_ok-linked.linked.header ≡ header_for o c.serial.result c.args.number c.args.fresh = ap (λ (x : HeadedFile). x.header) (c.in_ok-linked.ensures.linked ∙ c.in_ok-headed.ensures.headed) ∙ c.header-header.ensures.exact in
     told_next o c.args.pool.now c.blank.new.self c.in_ok-linked.linked (returns-clause-legal g c) (ap (λ (x : FileHeader). x.part) is) (ap (λ (x : FileHeader). x.kib) is) (ap (λ (x : FileHeader). x.kind) is)
-    (ap (λ (x : FileHeader). x.name) is) c.args.number (ap (λ (x : FileHeader). x.number) is) _ _ (returns-clause-told g c) c.requires.start
+    (ap (λ (x : FileHeader). x.name) is) (ap (λ (x : FileHeader). x.epoch) is) c.args.number (ap (λ (x : FileHeader). x.number) is) _ _ (returns-clause-told g c) c.requires.start
 
 pub returns-in_err-blank-clause-went : goal.returns-in_err-blank-clause-went
 returns-in_err-blank-clause-went g c = told_weaker (IsTakeStep c.args.opening.now) (IsLogStep c.args.opening.now) (λ m n h. h.step) c.from_residual.result _ _ (returns-in_err-blank-clause-kept g c)

@@ -1,4 +1,3 @@
-use Rattle.std.proofs.Common.{rules}
 use Rattle.qls_log.proofs.Trimmed.{newest_at}
 use Rattle.qls_log.proofs.trim.newest_of.Goals as goal
 

@@ -68,7 +68,7 @@ returns-clause-begins g c =
     (subst (λ (hs : List HeadedFile). Tells (TakesFiles o.home c.args.pool.now c.take_files.new.pool hs) (g.S.Site.told c.args.site.now) (g.S.Site.told c.take_files.new.site)) files c.in_ok-files.ensures.told) c.requires.pool c.requires.new)
 
 pub take_files-requires-clause-start : goal.take_files-requires-clause-start
-take_files-requires-clause-start g c = told_first (record { kind = c.args.kind; name = c.args.name; home = c.args.home; epoch = 1 }) c.args.pool.now _ c.requires.pool c.requires.new
+take_files-requires-clause-start g c = told_first (record { kind = c.args.kind; name = c.args.name; home = c.args.home; epoch = 1 }) c.args.pool.now _ refl c.requires.pool c.requires.new
 
 pub returns-clause-quiet : goal.returns-clause-quiet
 returns-clause-quiet g c = told_quiet_files c.args.home c.args.pool.now c.take_files.new.pool c.in_ok-files.files.items _ _ c.in_ok-files.ensures.told
