@@ -91,6 +91,10 @@ pub begun_within : (hs : List HeadedFile) (from : Course) → IsBegun hs from �
 begun_within [] from begun = absurd begun
 begun_within (f ∷ hs) from begun = omega (arith, begun.0)
 
+pub begun_some : (hs : List HeadedFile) (from : Course) → IsBegun hs from → 0 < from.came
+begun_some [] from begun = absurd begun
+begun_some (f ∷ hs) from begun = omega (arith, begun.0)
+
 pub told_begins : (a : Option Content) (hs : List HeadedFile) (from : Course) (old : Tally) (units place : ℕ) → AreCounted hs → AllByRecursion HasLegalHeader hs → IsBegun hs from
     → IfSome a (AreOnSite hs) → place ≡ begin_of from.given (map spot_of hs) → units ≡ units_of hs → IfSome a (λ c. IsUnderWay c.now.disk hs from old old from units place)
 told_begins None hs from old units place counted legal begun on at size = tt

@@ -11,3 +11,10 @@ pub mod Claims
 pub mod Runs
 pub mod Sites
 pub mod There
+pub mod Newest
+pub mod Kept
+pub mod Row
+pub mod Rests
+pub mod Stands
+pub mod Others
+pub mod Trimmed

@@ -87,7 +87,7 @@ sizes_are c [] on size legal = tt
 sizes_are c (f ∷ fs) on size legal =
     (size_is c.now.disk f on.0 size.0 (kib_some f.header.kib (legal_parts f.header legal.0).kib), sizes_are c fs on.1 size.1 legal.1)
 
-all_legal : (j : JournalFiles) (hs : List HeadedFile) → AllByRecursion (IsFileOf j) hs → AllByRecursion HasLegalHeader hs
+pub all_legal : (j : JournalFiles) (hs : List HeadedFile) → AllByRecursion (IsFileOf j) hs → AllByRecursion HasLegalHeader hs
 all_legal j [] h = tt
 all_legal j (f ∷ hs) h = (h.0.legal, all_legal j hs h.1)
 
@@ -98,7 +98,7 @@ module _ (j : JournalFiles) (c : Content) (order : IsInOrder j) (there : IsThere
   on_here : AllByRecursion (IsOn c.now.disk) here.files
   on_here = All-journal (IsOn c.now.disk) (map headed (in_use (full c.now.disk))) j.kind j.name (on_all c.now.disk c.now.disk (found_all c.now.disk there.rising))
 
-  heads : map head_of here.files ≡ j.files
+  pub heads : map head_of here.files ≡ j.files
   heads = ap (λ k. k.files) there.files
 
   pub are_here : files_on c.now.disk j.files ≡ here.files

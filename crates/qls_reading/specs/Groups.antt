@@ -1,5 +1,5 @@
 -- Files in epochs, and what a reader is told of them.
-use Rattle.std.specs.Prelude.{◌≡◌, ℕ, ◌+◌, ◌*◌, List, [], ◌∷◌, if◌then◌else◌, ◌==◌}
+use Rattle.std.specs.Prelude.{◌≡◌, ℕ, ◌+◌, ◌*◌, List, [], ◌∷◌, length, if◌then◌else◌, ◌==◌}
 use Rattle.qls_scan.specs.declared.answers.HeadedFile.{HeadedFile}
 use Rattle.qls_reader.specs.declared.spot.FileSpot.{FileSpot}
 use Rattle.qls_reading.specs.declared.rules.Spot.{Spot}
@@ -13,6 +13,11 @@ run_of epoch (f ∷ fs) = if f.header.epoch == epoch then f ∷ run_of epoch fs 
 abbrev pub first_run : List HeadedFile → List HeadedFile
 first_run [] = []
 first_run (f ∷ fs) = f ∷ run_of f.header.epoch fs
+
+-- the files at the end that have one epoch, that of the last
+abbrev pub last_run : List HeadedFile → List HeadedFile
+last_run [] = []
+last_run (f ∷ fs) = if length (run_of f.header.epoch fs) == length fs then f ∷ fs else last_run fs
 
 abbrev pub spot_of : HeadedFile → FileSpot
 spot_of f = record { id = f.id; number = f.header.number; serial = f.header.serial; kib = f.header.kib; first = f.header.first }

@@ -37,6 +37,7 @@ pub fn read_epoch<S: Site>(
     requires there { IfSome (S.told site.old) (AreOnSite files.now) }
     ensures says { IfSome (S.told site.old) (λ c. ReadsEpoch oldest last (files_on c.now.disk files.now) tally.old tally.new result) }
     ensures given { IfOk result (λ _. (rid : ℕ) → IsTallied rid tally.old → IsTallied rid tally.new) }
+    ensures within { IfOk result (λ past. past < length files.now) }
     ensures told { Tells OnlyLooks (S.told site.old) (S.told site.new) }
     ensures cause { LogCauses (S.faults site.old) (S.faults site.new) result }
     ensures syncs { S.syncs site.new ≡ S.syncs site.old }
@@ -93,6 +94,7 @@ fn read_on<S: Site>(
     ensures says { IfSome (S.told site.old) (λ c. ReadsOn (files_on c.now.disk files.now) from tally.old tally.new result) }
     ensures given { IfOk result (λ _. (rid : ℕ) → IsTallied rid tally.old → IsTallied rid tally.new) }
     ensures within { IfOk result (λ to. to.came ≤ length files.now) }
+    ensures some { IfOk result (λ to. 0 < to.came) }
     ensures told { Tells OnlyLooks (S.told site.old) (S.told site.new) }
     ensures cause { LogCauses (S.faults site.old) (S.faults site.new) result }
     ensures syncs { S.syncs site.new ≡ S.syncs site.old }
@@ -121,6 +123,7 @@ fn take(
     requires within { course.came ≤ length files.now }
     ensures takes { TakesRecord files.now course tally.old tally.new got result }
     ensures within { IfOk result (λ to. to.came ≤ length files.now) }
+    ensures onward { IfOk result (λ to. course.came ≤ to.came) }
     ensures unfailed { result ≡ Err Failed → ⊥ }
 {
     let spot = Spot {

@@ -45,6 +45,7 @@ pub fn come_to(files: &[HeadedFile], course: Course, rid: u64, spot: Spot) -> Re
     requires within { course.came ≤ length files.now }
     ensures exact { result ≡ come_on course rid spot (drop course.came files.now) }
     ensures within { IfOk result (λ to. to.came ≤ length files.now) }
+    ensures onward { IfOk result (λ to. course.came ≤ to.came) }
 {
     let ahead = &files[course.came..];
     let mut came = course;

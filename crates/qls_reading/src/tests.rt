@@ -14,7 +14,7 @@ use std::alloc::Global;
 use std::test::Fail;
 
 /// What a header says: its epoch, its first place and its rid.
-type Told = (u64, u64, u64);
+pub type Told = (u64, u64, u64);
 
 /// The first record covers the first file and a unit of the second. The last file is past the reading, so nothing of its
 /// header is tested.
@@ -90,7 +90,7 @@ fn add(bytes: &mut Vec<u8>, letter: u8, rid: u64) -> Result<u64, NoMemory> {
 }
 
 // The five data areas, joined.
-fn areas(alloc: Global, text: &str) -> Result<Vec<u8>, NoMemory>
+pub fn areas(alloc: Global, text: &str) -> Result<Vec<u8>, NoMemory>
     ensures length { IfOk result (λ bytes. length bytes.items ≡ 20480) }
 {
     let mut bytes = Vec::new(alloc);
@@ -135,7 +135,7 @@ fn header(number: u64, told: Told) -> Result<FileHeader, Fail>
 }
 
 // The file with that header, under its number as its id, and its part of the joined data areas.
-fn file(alloc: Global, number: u64, told: Told, areas: &[u8]) -> Result<ImageFile, Fail>
+pub fn file(alloc: Global, number: u64, told: Told, areas: &[u8]) -> Result<ImageFile, Fail>
     requires number { (1 ≤ number) × (number ≤ 5) }
     requires areas { length areas.now ≡ 20480 }
     ensures id { IfOk result (λ f. f.id ≡ number) }
@@ -257,6 +257,8 @@ fn the_records_come_in_order(rt: HostRuntime) -> Result<(), Fail> {
     }
     assert_eq!(rt; log.file_at(4).map(|file| file.id), Some(5));
     assert!(rt; log.file_at(5).is_none());
+    assert!(rt; matches!(log.kind(), JournalKind::Queue));
+    assert_eq!(rt; log.name().as_slice(), b"a".as_slice());
     assert_eq!(rt; site.sync_count(), 0);
     Ok(())
 }

@@ -9,10 +9,10 @@ use Rattle.qls_model.specs.Limits.{file_size}
 use Rattle.qls_filehdr.specs.declared.FileHeader.{FileHeader}
 use Rattle.qls_filehdr.specs.declared.Rule.{Rule}
 use Rattle.qls_filehdr.specs.declared.Rule.TheVariants as rule
-use Rattle.qls_filehdr.specs.Header.{header_of, header_fields, number_claims, rest_claims}
+use Rattle.qls_filehdr.specs.Header.{header_of, header_spelling, header_fields, number_claims, rest_claims}
 use Rattle.qls_meaning.specs.Journals.{headed, in_use}
 use Rattle.qls_meaning.specs.Damage.{header_claims}
-use Rattle.qls_scan.specs.Found.{head_of, HasCause}
+use Rattle.qls_scan.specs.Found.{head_of, HasCause, IsSpelledOn}
 use Rattle.qls_site.specs.Content.{Content, IsRead}
 use Rattle.std.specs.Int.{w16}
 use Rattle.qls_shape.specs.Fields.{number_at}
@@ -108,6 +108,9 @@ module _ (file : FileAt) (h : FileHeader) where
   pub sized_legal : IsTrue (is_legal_header h) → IfOk (sized_head file h) HasLegalHeader
   sized_legal l = elim (eqb file.size (file_size h.kib)) as (λ b. IfOk (sized file h b) HasLegalHeader) [ true ↦ l | false ↦ tt ]
 
+  pub sized_spelled : (bytes : List ℕ) → bytes ≡ header_spelling h → IfOk (sized_head file h) (λ head. header_spelling head.header ≡ bytes)
+  sized_spelled bytes e = elim (eqb file.size (file_size h.kib)) as (λ b. IfOk (sized file h b) (λ head. header_spelling head.header ≡ bytes)) [ true ↦ sym e | false ↦ tt ]
+
   pub sized_id : IfOk (sized_head file h) (λ head. head.id ≡ file.id)
   sized_id = elim (eqb file.size (file_size h.kib)) as (λ b. IfOk (sized file h b) (λ head. head.id ≡ file.id)) [ true ↦ refl | false ↦ tt ]
 
@@ -126,6 +129,14 @@ module _ (file : FileAt) where
       legal_by (Ok h) e = sized_legal file h (header_of_spells bytes h n small e).0
       legal_by (Err r) e = tt
 
+  -- and the bytes are its spelling
+  pub head_spelled : (bytes : List ℕ) → length bytes ≡ 4096 → ((i : ℕ) → get_or bytes i 0 < 256) → IfOk (head_from file (header_of bytes)) (λ head. header_spelling head.header ≡ bytes)
+  head_spelled bytes n small = spelled_by (header_of bytes) refl
+    where
+      spelled_by : (r : Result FileHeader Rule) → header_of bytes ≡ r → IfOk (head_from file r) (λ head. header_spelling head.header ≡ bytes)
+      spelled_by (Ok h) e = sized_spelled file h bytes (header_of_spells bytes h n small e).1
+      spelled_by (Err r) e = tt
+
   pub head_id : (r : Result FileHeader Rule) → IfOk (head_from file r) (λ head. head.id ≡ file.id)
   head_id (Ok h) = sized_id file h
   head_id (Err r) = tt
@@ -140,3 +151,9 @@ module _ (file : FileAt) where
 pub record AreReadSoFar (d : Disk) (k : ℕ) (found : List HeadedFile) : Type 0 where
   pub claims : each header_claims (in_use (full d)) ≡ each header_claims (in_use (full (drop k d)))
   pub heads : found ++ map head_of (map headed (in_use (full (drop k d)))) ≡ map head_of (map headed (in_use (full d)))
+
+pub told_spelled : (o : Option Content) (file : FileAt) (block : List ℕ) (r : Result HeadedFile ScanFault) → IsRead o file.id 0 4096 block (Ok tt) → IfOk r (λ head. head.id ≡ file.id)
+    → IfOk r (λ head. header_spelling head.header ≡ block) → IfOk r (λ head. IfSome o (λ c. IsSpelledOn c.now.disk head))
+told_spelled o file block (Err e) read id spelled = tt
+told_spelled None file block (Ok head) read id spelled = tt
+told_spelled (Some c) file block (Ok head) read id spelled = ap (λ n. take 4096 (bytes_at n c.now.disk)) id ∙ sym read ∙ sym spelled

@@ -9,7 +9,7 @@ use Rattle.qls_site.specs.Content.{Moment, Content, Tells, OnlyLooks}
 use Rattle.qls_meaning.specs.Journals.{headed, in_use, is_in_use}
 use Rattle.qls_meaning.specs.Damage.{Damage, header_claims}
 use Rattle.qls_scan.proofs.Lists.{drop_next}
-use Rattle.qls_scan.specs.Found.{head_of}
+use Rattle.qls_scan.specs.Found.{head_of, IsSpelledOn}
 use Rattle.qls_scan.specs.Heads.{IsListedOn, IsHeadOf, HeadIsRead, AreHeadsOf, HeadsAreRead}
 use Rattle.qls_scan.specs.declared.answers.HeadedFile.{HeadedFile}
 use Rattle.qls_scan.specs.declared.answers.ScanFault.{ScanFault}
@@ -201,3 +201,8 @@ ids_more (h ∷ found) head f rest e = ap (λ ns. h.id ∷ ns) (ids_more found h
 pub legal_more : (P : HeadedFile → Type 0) (found : List HeadedFile) (head : HeadedFile) → AllByRecursion P found → P head → AllByRecursion P (found ++ head ∷ [])
 legal_more P [] head h p = (p, tt)
 legal_more P (f ∷ found) head h p = (h.0, legal_more P found head h.1 p)
+
+pub spelled_more : (found : List HeadedFile) (head : HeadedFile) (o : Option Content) → IfSome o (λ c. AllByRecursion (IsSpelledOn c.now.disk) found) → IfSome o (λ c. IsSpelledOn c.now.disk head)
+    → IfSome o (λ c. AllByRecursion (IsSpelledOn c.now.disk) (found ++ head ∷ []))
+spelled_more found head None h p = tt
+spelled_more found head (Some c) h p = legal_more (IsSpelledOn c.now.disk) found head h p

@@ -1,11 +1,13 @@
 -- What holds of each answer, whether the site tells its content or not.
-use Rattle.std.proofs.Common.{◌≡◌, ℕ, ◌<◌, ◌^◌, Bool, true, false, cond, not, ◌&&◌, ◌||◌, max, List, [], ◌∷◌, ◌++◌, map, length, eqb, ltb, Ok, Err, IsTrue, refl, sym, ap, ◌∙◌, subst, arith}
+use Rattle.std.proofs.Common.{◌≡◌, ℕ, ◌<◌, ◌^◌, Bool, true, false, cond, not, ◌&&◌, ◌||◌, max, List, [], ◌∷◌, ◌++◌, map, length, eqb, ltb, Option, Some, None, IfSome, Ok, Err, IsTrue, refl, sym, ap, ◌∙◌, subst, arith}
 use Rattle.std.specs.List.{AllByRecursion, filter, list_any}
 use Rattle.std.proofs.lemmas.Bool.Decides.{nat_tests}
 use Rattle.qls_model.specs.Bytes.{same, is_listed}
 use Rattle.qls_model.proofs.XidKeys.{same_true, same_self}
 use Rattle.qls_shape.specs.Claims.{each, claim, of_file, ◌>>=◌}
 use Rattle.qls_site.specs.declared.site.FileAt.{FileAt}
+use Rattle.qls_site.specs.Disk.{Disk}
+use Rattle.qls_site.specs.Content.{Content}
 use Rattle.qls_filehdr.specs.declared.JournalKind.{JournalKind}
 use Rattle.qls_filehdr.specs.declared.JournalKind.TheVariants.{Queue, List as Listed}
 use Rattle.qls_filehdr.specs.declared.Rule.{Rule}
@@ -15,7 +17,7 @@ use Rattle.qls_meaning.specs.Journals.{Headed, Journal, is_in_use, is_of, is_que
 use Rattle.qls_meaning.specs.Damage.{Checked, is_pool, chain_claims}
 use Rattle.qls_scan.specs.declared.answers.HeadedFile.{HeadedFile}
 use Rattle.qls_scan.specs.declared.answers.JournalFiles.{JournalFiles}
-use Rattle.qls_scan.specs.Found.{head_of, with_no_area, files_of, greatest, IsFileOf, IsInOrder, goes_before, JournalsRise, IsSound}
+use Rattle.qls_scan.specs.Found.{head_of, with_no_area, files_of, greatest, IsFileOf, IsInOrder, goes_before, JournalsRise, IsSound, IsSpelledOn, AreSpelledOn}
 use Rattle.qls_scan.specs.Listed.{listed_id_claim, listed_pool_claim, listed_claims, ListedAbove, ListedRise}
 use Rattle.qls_scan.specs.Heads.{HasLegalHeader}
 use Rattle.qls_scan.specs.Groups.{LacksId, IdsDiffer}
@@ -234,3 +236,37 @@ all_sound files empty heads found kept legal grouped chain none =
       empties = subst (AllByRecursion (λ f. is_pool f.size f.place ≡ true)) (sym none) (all_pools (filter (λ f. not (is_in_use f.place)) files) own.1);
       greatest = greatest_below files own.0;
     }
+
+-- ---- the spelling of headers
+
+module _ (d : Disk) where
+  abbrev IsSpelled : Headed → Type 0
+  IsSpelled f = IsSpelledOn d (head_of f)
+
+  spelled_heads : (hs : List HeadedFile) → AllByRecursion (IsSpelledOn d) hs → AllByRecursion IsSpelled (map with_no_area hs)
+  spelled_heads [] h = tt
+  spelled_heads (f ∷ hs) h = (h.0, spelled_heads hs h.1)
+
+  spelled_files : (fs : List Headed) → AllByRecursion IsSpelled fs → AllByRecursion (IsSpelledOn d) (map head_of fs)
+  spelled_files [] h = tt
+  spelled_files (f ∷ fs) h = (h.0, spelled_files fs h.1)
+
+  module _ (fs : List Headed) (spelled : AllByRecursion IsSpelled fs) where
+    spelled_in : (kind : JournalKind) (name : List ℕ) → AreSpelledOn d (files_of (journal fs kind name))
+    spelled_in kind name = spelled_files (by_number (filter (is_of kind name) fs)) (all_group IsSpelled (is_of kind name) fs spelled)
+
+    spelled_named : (ns : List (List ℕ)) → AllByRecursion (AreSpelledOn d) (map files_of (map (journal fs Queue) ns))
+    spelled_named [] = tt
+    spelled_named (n ∷ ns) = (spelled_in Queue n, spelled_named ns)
+
+    spelled_journals : AllByRecursion (AreSpelledOn d) (map files_of (journals fs))
+    spelled_journals = elim (list_any (λ f. not (is_queue f.header.kind)) fs) as (λ b. AllByRecursion (AreSpelledOn d) (map files_of (cond b (journal fs Listed [] ∷ []) [] ++ map (journal fs Queue) (queue_names fs)))) [
+      | true ↦ (spelled_in Listed [], spelled_named (queue_names fs))
+      | false ↦ spelled_named (queue_names fs)
+    ]
+
+pub all_spelled : (o : Option Content) (heads : List HeadedFile) (found : List JournalFiles) → found ≡ map files_of (journals (map with_no_area heads))
+    → IfSome o (λ c. AllByRecursion (IsSpelledOn c.now.disk) heads) → IfSome o (λ c. AllByRecursion (AreSpelledOn c.now.disk) found)
+all_spelled None heads found grouped h = tt
+all_spelled (Some c) heads found grouped h =
+    subst (AllByRecursion (AreSpelledOn c.now.disk)) (sym grouped) (spelled_journals c.now.disk (map with_no_area heads) (spelled_heads c.now.disk heads h))

@@ -1,16 +1,17 @@
 -- What a scan finds, and what it answers where a rule fails.
-use Rattle.std.specs.Prelude.{◌≡◌, ℕ, ◌≤◌, ◌<◌, ◌^◌, Bool, true, false, max, List, [], ◌∷◌, map, length, Result, Ok, Err, IsTrue}
+use Rattle.std.specs.Prelude.{◌≡◌, ℕ, ◌≤◌, ◌<◌, ◌^◌, Bool, true, false, max, List, [], ◌∷◌, map, length, take, Result, Ok, Err, IsTrue}
 use Rattle.std.specs.List.{AllByRecursion}
 use Rattle.qls_model.specs.Bytes.{comes_before}
 use Rattle.qls_site.specs.declared.site.SiteError.{SiteError}
 use Rattle.qls_site.specs.declared.site.SiteError.TheVariants as site
 use Rattle.qls_site.specs.declared.site.FileAt.{FileAt}
 use Rattle.qls_site.specs.declared.site.ImageFile.{ImageFile}
-use Rattle.qls_site.specs.Disk.{Image}
+use Rattle.qls_site.specs.Disk.{Disk, Image, bytes_at}
 use Rattle.qls_site.specs.Content.{Rose}
 use Rattle.qls_filehdr.specs.declared.JournalKind.{JournalKind}
 use Rattle.qls_filehdr.specs.declared.JournalKind.TheVariants.{Queue, List as Listed}
 use Rattle.qls_filehdr.specs.Limits.{is_legal_header}
+use Rattle.qls_filehdr.specs.Header.{header_spelling}
 use Rattle.qls_meaning.specs.Journals.{Headed, Journal, empties, journals_of}
 use Rattle.qls_meaning.specs.Damage.{scanned, is_pool, chain_claims}
 use Rattle.qls_scan.specs.declared.answers.HeadedFile.{HeadedFile}
@@ -52,6 +53,13 @@ IsFirstDamage i (Ok found) = Unit {0}
 IsFirstDamage i (Err Failed) = Unit {0}
 IsFirstDamage i (Err Memory) = Unit {0}
 IsFirstDamage i (Err (Damaged file rule)) = scanned i ≡ Err (file, rule)
+
+-- in front of the file stands the one spelling of its header
+abbrev pub IsSpelledOn : Disk → HeadedFile → Type 0
+IsSpelledOn d f = take 4096 (bytes_at f.id d) ≡ header_spelling f.header
+
+abbrev pub AreSpelledOn : Disk → JournalFiles → Type 0
+AreSpelledOn d j = AllByRecursion (IsSpelledOn d) j.files
 
 -- ---- what holds of each answer, told or not
 

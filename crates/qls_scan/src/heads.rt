@@ -4,9 +4,9 @@ ghost use Rattle.std.specs.List.{AllByRecursion, filter};
 ghost use Rattle.qls_site.specs.Disk.{IdsRise, full, listing};
 ghost use Rattle.qls_site.specs.Content.{Tells, OnlyLooks};
 ghost use Rattle.qls_meaning.specs.Journals.{is_in_use};
-ghost use Rattle.qls_scan.specs.Found.{HasCause};
+ghost use Rattle.qls_scan.specs.Found.{HasCause, IsSpelledOn};
 ghost use Rattle.qls_scan.specs.Heads.{IsListedOn, HeadIsRead, HeadsAreRead, HasLegalHeader, sized_head, head_from};
-ghost use Rattle.qls_filehdr.specs.Header.{header_of};
+ghost use Rattle.qls_filehdr.specs.Header.{header_of, header_spelling};
 ghost use Rattle.qls_scan.specs.declared.answers.ScanFault.TheVariants.{Damaged};
 
 use crate::answers::{HeadedFile, ScanFault};
@@ -27,6 +27,7 @@ pub fn read_heads<S: Site>(
     ensures cause { HasCause (S.faults site.old) (S.faults site.new) result }
     ensures syncs { S.syncs site.new ≡ S.syncs site.old }
     ensures legal { IfOk result (λ heads. AllByRecursion HasLegalHeader heads) }
+    ensures spelled { IfOk result (λ heads. IfSome (S.told site.old) (λ c. AllByRecursion (IsSpelledOn c.now.disk) heads)) }
     ensures ids { IfOk result (λ heads. map (λ h. h.id) heads ≡ map (λ f. f.id) (filter (λ f. is_in_use f.place) files.now)) }
 {
     let mut heads = Seq::new(alloc);
@@ -48,6 +49,7 @@ fn read_head<S: Site>(site: &mut S, file: &FileAt) -> Result<HeadedFile, ScanFau
     ensures cause { HasCause (S.faults site.old) (S.faults site.new) result }
     ensures syncs { S.syncs site.new ≡ S.syncs site.old }
     ensures legal { IfOk result HasLegalHeader }
+    ensures spelled { IfOk result (λ head. IfSome (S.told site.old) (λ c. IsSpelledOn c.now.disk head)) }
     ensures id { IfOk result (λ head. head.id ≡ file.now.id) }
 {
     if file.size < 4_096 {
@@ -63,6 +65,7 @@ fn head_in(file: &FileAt, block: &[u8]) -> Result<HeadedFile, ScanFault>
     requires size { length block.now ≡ 4096 }
     ensures exact { result ≡ head_from file.now (header_of block.now) }
     ensures legal { IfOk result HasLegalHeader }
+    ensures spelled { IfOk result (λ head. header_spelling head.header ≡ block.now) }
 {
     match FileHeader::read(block) {
         Ok(header) => sized(file, header),

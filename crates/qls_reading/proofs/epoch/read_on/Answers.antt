@@ -1,7 +1,7 @@
 use Rattle.std.proofs.Common.{◌≡◌, ◌-◌, refl, ap, sym, subst, ◌∙◌, Result, Ok, Err, IfSome, drop, rules, arith}
 use Rattle.qls_reading.specs.Tested.{come_on}
 use Rattle.qls_reading.proofs.Given.{tallied_more}
-use Rattle.qls_reading.proofs.Begins.{told_begins, begun_within}
+use Rattle.qls_reading.proofs.Begins.{told_begins, begun_within, begun_some}
 use Rattle.qls_reading.specs.declared.rules.Course.{Course}
 use Rattle.qls_reading.specs.declared.fault.LogFault.{LogFault}
 use Rattle.qls_reading.specs.declared.fault.LogFault.TheVariants.{Damaged}
@@ -16,6 +16,7 @@ loop-init g c = record {
   files = ap (λ r. r.files) c.requires.reader;
   going = ap (λ r. r.ended) c.requires.reader;
   within = begun_within c.args.files.now c.args.from c.requires.begun;
+  some = begun_some c.args.files.now c.args.from c.requires.begun;
   given = λ rid h. h;
   told = looks_none (g.S.Site.told c.args.site.now);
   kept = omega arith;
@@ -92,6 +93,7 @@ loop-preserved g c =
       files = steps.1 ∙ so.files;
       going = steps.0;
       within = c.in_ok-course-in-Got.ensures.within;
+      some = omega (arith, so.some, c.in_ok-course-in-Got.ensures.onward);
       given = λ rid h. tallied_more rid c.args.files.now c.loop.course c.in_ok-course-in-Got.course c.loop.tally c.take.new.tally c.in-Got.got (so.given rid h) c.in_ok-course-in-Got.ensures.takes;
       told = looks_on told (g.S.Site.told c.loop.site) (g.S.Site.told c.next.new.site) so.told c.next.ensures.told;
       kept = omega (arith, so.kept, c.next.ensures.cause.kept);

@@ -1,4 +1,4 @@
-use Rattle.std.proofs.Common.{◌≡◌, ℕ, ◌-◌, ◌≤◌, false, length, map, IfSome}
+use Rattle.std.proofs.Common.{◌≡◌, ℕ, ◌-◌, ◌<◌, ◌≤◌, false, length, map, IfSome}
 use Rattle.qls_site.specs.Content.{Tells, OnlyLooks}
 use Rattle.qls_reading.specs.Groups.{spot_of}
 use Rattle.qls_reading.specs.Tested.{IsTallied}
@@ -11,6 +11,7 @@ invariant-loop g l = record {
   files : l.reader.files ≡ map spot_of l.files;
   going : l.reader.ended ≡ false;
   within : l.course.came ≤ length l.files;
+  some : 0 < l.course.came;
   given : (rid : ℕ) → IsTallied rid l.fn.tally → IsTallied rid l.tally;
   told : Tells OnlyLooks (g.S.Site.told l.fn.site) (g.S.Site.told l.site);
   kept : g.S.Site.faults l.fn.site ≤ g.S.Site.faults l.site;

@@ -7,6 +7,7 @@ use Rattle.qls_reading.specs.declared.fault.LogFault.{LogFault}
 use Rattle.qls_reading.specs.Groups.{first_run}
 use Rattle.qls_reading.specs.Left.{files_on, ReadsEpoch, ReadsEpochs}
 use Rattle.qls_reading.proofs.Told.{still_on}
+use Rattle.qls_reading.proofs.Newest.{past_last}
 use Rattle.qls_reading.proofs.Runs.{rest_whole, counted_between, on_between, told_one, told_one_broken}
 use Rattle.qls_reading.proofs.log.read_epochs.Goals as goal
 
@@ -48,6 +49,7 @@ loop-from-preserved g c =
     record {
       rest = told_one hs c.args.tally.now from to c.loop-from.tally c.loop-from.past c.loop-from-test.true (ap (λ n. from + n) (c.run_length.ensures.exact ∙ ap (λ gs. length (first_run gs)) (rest_whole from hs))) (eqb to (length hs)) refl told c.read_epoch.new.tally c.in_ok-past.past so.rest read;
       within = omega (arith, c.run_length.ensures.within, length-take (length hs - from) (drop from hs), length-drop from hs, c.loop-from-test.true);
+      past = λ end. past_last hs from to c.in_ok-past.past (ap (λ n. from + n) (c.run_length.ensures.exact ∙ ap (λ gs. length (first_run gs)) (rest_whole from hs))) end c.in_ok-past.ensures.within;
       given = λ rid h. c.in_ok-past.ensures.given rid (so.given rid h);
       told = Tells-then OnlyLooks OnlyLooks OnlyLooks _ _ _ so.told c.read_epoch.ensures.told OnlyLooks-then;
       kept = omega (arith, so.kept, c.read_epoch.ensures.cause.kept);

@@ -4,7 +4,7 @@ use Rattle.qls_site.proofs.Told.{Tells-weaken, OnlyLooks-call}
 use Rattle.qls_filehdr.specs.Header.{header_of}
 use Rattle.qls_scan.specs.Found.{HasCause}
 use Rattle.qls_scan.specs.Heads.{HeadIsRead}
-use Rattle.qls_scan.proofs.HeadLaws.{told_head, head_id, head_cause}
+use Rattle.qls_scan.proofs.HeadLaws.{told_head, told_spelled, head_id, head_cause}
 use Rattle.qls_scan.proofs.heads.read_head.Goals as goal
 
 pub returns-clause-read : goal.returns-clause-read
@@ -20,3 +20,7 @@ returns-clause-cause g c = subst (HasCause _ _) (sym c.head_in.ensures.exact) (h
 
 pub returns-clause-id : goal.returns-clause-id
 returns-clause-id g c = subst (λ r. IfOk r (λ head. head.id ≡ c.args.file.now.id)) (sym c.head_in.ensures.exact) (head_id c.args.file.now (header_of c.read.new.into))
+
+pub returns-clause-spelled : goal.returns-clause-spelled
+returns-clause-spelled g c =
+    told_spelled (g.S.Site.told c.args.site.now) c.args.file.now c.read.new.into c.head_in.result c.in_ok-read.ensures.read (returns-clause-id g c) c.head_in.ensures.spelled

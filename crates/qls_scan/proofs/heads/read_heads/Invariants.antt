@@ -2,6 +2,7 @@ use Rattle.std.proofs.Common.{◌≡◌, ◌++◌, ◌≤◌, map, drop, IfSome}
 use Rattle.std.specs.List.{AllByRecursion, filter}
 use Rattle.qls_site.specs.Content.{Tells, OnlyLooks}
 use Rattle.qls_meaning.specs.Journals.{is_in_use}
+use Rattle.qls_scan.specs.Found.{IsSpelledOn}
 use Rattle.qls_scan.specs.Heads.{HasLegalHeader}
 use Rattle.qls_scan.proofs.HeadSteps.{AreReadSoFar}
 use Rattle.qls_scan.proofs.heads.read_heads.Given as goal
@@ -13,5 +14,6 @@ invariant-loop-file g l = record {
   kept : g.S.Site.faults l.initial.site ≤ g.S.Site.faults l.site;
   syncs : g.S.Site.syncs l.site ≡ g.S.Site.syncs l.initial.site;
   legal : AllByRecursion HasLegalHeader l.heads;
+  spelled : IfSome (g.S.Site.told l.initial.site) (λ c. AllByRecursion (IsSpelledOn c.now.disk) l.heads);
   ids : map (λ h. h.id) l.heads ++ map (λ f. f.id) (filter (λ f. is_in_use f.place) (drop l.file-index l.files)) ≡ map (λ f. f.id) (filter (λ f. is_in_use f.place) l.files);
 }

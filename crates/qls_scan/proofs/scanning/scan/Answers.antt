@@ -1,4 +1,5 @@
 use Rattle.std.proofs.Common.{◌≡◌, ◌∙◌, ap, sym, subst, map, IfSome, Result, Err, Ok, rules}
+use Rattle.std.specs.List.{AllByRecursion}
 use Rattle.qls_shape.specs.Claims.{each}
 use Rattle.qls_meaning.specs.Damage.{chain_claims}
 use Rattle.qls_scan.specs.declared.answers.Found.{Found}
@@ -7,9 +8,10 @@ use Rattle.qls_site.specs.Disk.{full}
 use Rattle.qls_site.specs.Content.{Tells, OnlyLooks}
 use Rattle.qls_site.proofs.Told.{Tells-weaken, Tells-then, OnlyLooks-call, OnlyLooks-then}
 use Rattle.qls_scan.specs.declared.answers.ScanFault.TheVariants.{Damaged}
-use Rattle.qls_scan.specs.Found.{with_no_area, IsFound, IsFirstDamage, IsSound}
+use Rattle.qls_scan.specs.Found.{with_no_area, IsFound, IsFirstDamage, IsSound, IsSpelledOn}
 use Rattle.qls_scan.proofs.Whole.{listing_told, heads_back, listing_damaged, heads_damaged, chain_damaged, all_found}
-use Rattle.qls_scan.proofs.Sound.{heads_differ, all_sound}
+use Rattle.qls_scan.proofs.HeadSteps.{looked_back}
+use Rattle.qls_scan.proofs.Sound.{heads_differ, all_sound, all_spelled}
 use Rattle.qls_scan.proofs.scanning.scan.Goals as goal
 
 pub returns-in_err-check_files-clause-damage : goal.returns-in_err-check_files-clause-damage
@@ -91,6 +93,13 @@ returns-clause-sound g c =
     (all_sound files empty c.in_ok-heads.heads found c.in_ok-check_files.ensures.kept c.in_ok-heads.ensures.legal c.in_ok-journals.ensures.grouped
     kept
     c.in_ok-empties_of.ensures.exact)
+
+pub returns-clause-spelled : goal.returns-clause-spelled
+returns-clause-spelled g c =
+    let told = g.S.Site.told c.args.site.now in
+    let looked : Tells OnlyLooks told (g.S.Site.told c.list.new.self) = Tells-weaken _ OnlyLooks _ _ c.list.ensures.told (OnlyLooks-call _) in
+    all_spelled told c.in_ok-heads.heads c.in_ok-journals.journals c.in_ok-journals.ensures.grouped
+    (looked_back (λ d. AllByRecursion (IsSpelledOn d) c.in_ok-heads.heads) told (g.S.Site.told c.list.new.self) looked c.in_ok-heads.ensures.spelled)
 
 pub returns-clause-told : goal.returns-clause-told
 returns-clause-told g c = Tells-then OnlyLooks OnlyLooks OnlyLooks _ _ _ (Tells-weaken _ OnlyLooks _ _ c.list.ensures.told (OnlyLooks-call _)) c.read_heads.ensures.told OnlyLooks-then
