@@ -10,6 +10,7 @@ pub mod DeadFiles
 pub mod Unlinked
 pub mod GoneDead
 pub mod Released
+pub mod Still
 pub mod Back
 pub mod Writes
 pub mod Quiet

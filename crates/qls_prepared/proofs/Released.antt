@@ -26,12 +26,12 @@ use Rattle.qls_prepared.proofs.Then.{adds_of, chain_since}
 
 -- ---- the files, and the log without them
 
-flushed_released : (n : ℕ) (l : LogState) → l.unsynced ≡ [] → released n l ≡ before_number n l.files
+pub flushed_released : (n : ℕ) (l : LogState) → l.unsynced ≡ [] → released n l ≡ before_number n l.files
 flushed_released n l e = ap (λ (own : List ℕ). cond (length own == 0) (before_number n l.files) []) e
 
 -- ---- a list with a log
 
-whole_of : (p : PreparedState) (l : LogState) (d : Disk) → p.log ≡ Some l → IsListWhole p d → IsReadSo l p.entries p.held d
+pub whole_of : (p : PreparedState) (l : LogState) (d : Disk) → p.log ≡ Some l → IsListWhole p d → IsReadSo l p.entries p.held d
 whole_of p l d is w = subst (λ o. WholeBy o p.entries p.held d) is w
 
 clean_of : (p : PreparedState) (l : LogState) (es : List ListEntry) (hs : List Held) (d : Disk) → p.log ≡ Some l → p.entries ≡ es → p.held ≡ hs → IsReadClean l es hs d → IsListClean p d
@@ -112,7 +112,7 @@ module _ (p : PreparedState) (l : LogState) (of : p.log ≡ Some l) (sound : IsS
 
 -- ---- a list that is sound
 
-own_by : (o : Option LogState) (l : LogState) → o ≡ Some l → IsOwn o → IsOwnLog l
+pub own_by : (o : Option LogState) (l : LogState) → o ≡ Some l → IsOwn o → IsOwnLog l
 own_by o l of own = subst IsOwn of own
 
 module _ (p : PreparedState) (l : LogState) (of : p.log ≡ Some l) (s : lists.IsSound p) where

@@ -167,3 +167,7 @@ pub record StaysWhole (old new : PreparedState) (a b : Content) : Type 0 where
 pub record BecomesClean (old new : PreparedState) (a b : Content) : Type 0 where
   pub adds : b.moments ≡ a.moments ++ moments_since a b
   pub clean : AllUnmarked a.now (moments_since a b) → IsListWhole old a.now.disk → IsListClean new b.now.disk
+
+-- where its oldest file isn't dead, all is as it was: no file goes back
+abbrev pub StaysStill : PreparedState → Content → Content → Type 0
+StaysStill p a b = IsListClean p a.now.disk → b ≡ a

@@ -18,7 +18,7 @@ ghost use Rattle.qls_log.specs.Leaving.{NoneLeaves};
 ghost use Rattle.qls_log.specs.Reads.{IsRead};
 ghost use Rattle.qls_log.specs.Soundness.{IsUndamaged};
 ghost use Rattle.qls_log.specs.Steps.{IsLogStep, GoesBy, is_exact};
-ghost use Rattle.qls_prepared.specs.Lists.{opening_by, opened, rid_of, rid_of_log, IsXid, IsOwn, IsSound, MayEnd, ListThere, IsListWhole, StaysWhole, BecomesClean};
+ghost use Rattle.qls_prepared.specs.Lists.{opening_by, opened, rid_of, rid_of_log, IsXid, IsOwn, IsSound, MayEnd, ListThere, IsListWhole, StaysStill, StaysWhole, BecomesClean};
 ghost use Rattle.qls_prepared.specs.Records.{prepare_records, one_phase_records, entry_records, entered_state, decision_of, end_records, without_entries};
 ghost use Rattle.qls_prepared.specs.Moments.{LeavesDead, StaysWritten};
 ghost use Rattle.qls_prepared.specs.Ends.{Stops, IsAtEnd, KeepsFit};
@@ -331,6 +331,7 @@ impl PreparedList {
         ensures limit { pool.old.greatest < 2 ^ 62 → pool.new.greatest < 2 ^ 62 }
         ensures fit { IfOk result (λ _. Tells (KeepsFit pool.old pool.new) (S.told site.old) (S.told site.new)) }
         ensures clean { IfOk result (λ _. Tells (BecomesClean self.old self.new) (S.told site.old) (S.told site.new)) }
+        ensures still { IfOk result (λ _. Tells (StaysStill self.old) (S.told site.old) (S.told site.new)) }
         ensures quiet { IfOk result (λ _. Carries IsQuiet IsQuiet (S.told site.old) (S.told site.new)) }
         ensures went { Tells (GoesBy (IsLogStep (opening_by self.old.home self.old.log)) result) (S.told site.old) (S.told site.new) }
         ensures leaves { Tells (LeavesDead self.old) (S.told site.old) (S.told site.new) }

@@ -35,7 +35,7 @@ FirstBelow n [] (d ∷ ds) = ⊥
 FirstBelow n (f ∷ []) (d ∷ ds) = ⊥
 FirstBelow n (f ∷ g ∷ fs) (d ∷ ds) = (d ≡ f) × (f.header.number < n) × FirstBelow n (g ∷ fs) ds
 
-lesser : (m n : ℕ) → nat_lt m n ≡ true → m < n
+pub lesser : (m n : ℕ) → nat_lt m n ≡ true → m < n
 lesser m n e = grind (arith, nat_tests, e)
 
 not_lesser : (m n : ℕ) → nat_lt m n ≡ false → n ≤ m
@@ -138,7 +138,7 @@ module _ (l : LogState) (held : List Held) (b : Bool) (kind : l.opening.kind ≡
         oldest_dead log held b m.disk kind r.sound r.there r.whole oldest second.0 second.1 (files_are ∙ ap (λ (xs : List Headed). oldest ∷ xs) second.2)
         (subst (λ n. AboveFile n held) (sym (old_number log f (g ∷ fs) m.disk r.sound r.there)) above)
 
-    has_dead : has_dead_oldest (journal_on m.disk l.opening.kind l.opening.name) ≡ true
+    pub has_dead : has_dead_oldest (journal_on m.disk l.opening.kind l.opening.name) ≡ true
     has_dead = ap (first_is_dead (journal_on m.disk l.opening.kind l.opening.name)) files_are ∙ dead
 
     is : files_on l.opening after.disk ≡ drop 1 (files_on l.opening m.disk)
@@ -161,10 +161,10 @@ module _ (l : LogState) (held : List Held) (b : Bool) (kind : l.opening.kind ≡
 
   -- ---- in a row
 
-  abbrev needed : ℕ
+  abbrev pub needed : ℕ
   needed = file_or l.newest (least_file held)
 
-  above_all : (f : HeadedFile) → f.header.number < needed → AboveFile f.header.number held
+  pub above_all : (f : HeadedFile) → f.header.number < needed → AboveFile f.header.number held
   above_all f less = before_least f.header.number l.newest held less
 
   pub ready_after : (ds : List HeadedFile) (older : ℕ) (fs : List HeadedFile) (x : Content) → FirstBelow needed fs ds → Ready l held b older fs x.now.disk

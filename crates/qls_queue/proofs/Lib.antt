@@ -16,5 +16,7 @@ pub mod DeadFiles
 pub mod Unlinked
 pub mod GoneDead
 pub mod Released
+pub mod Still
 pub mod Emptied
 pub mod Opened
+pub mod Numbers

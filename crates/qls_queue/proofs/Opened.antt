@@ -111,7 +111,7 @@ last_is [] q = refl
 last_is (r ∷ rs) q = last_is rs (after_record r.what.kind r.what q) ∙ ap (λ n. rid_of_reads n rs) (one_last r.what.kind r.what q)
 
 -- the queue that a journal says: its name, the rid in force behind its reading, and what that leaves held
-meant : (j : Journal) → queue_of j ≡ record { name = j.name; last = rid_of_reads (oldest_rid j.files) (journal_reading j); messages = messages_of (held_after_all (journal_reading j) []) }
+pub meant : (j : Journal) → queue_of j ≡ record { name = j.name; last = rid_of_reads (oldest_rid j.files) (journal_reading j); messages = messages_of (held_after_all (journal_reading j) []) }
 meant j =
     let q : QueueState = record { name = j.name; last = oldest_rid j.files; messages = [] } in
     let rs : List Read = journal_reading j in

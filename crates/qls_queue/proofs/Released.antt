@@ -24,7 +24,7 @@ use Rattle.qls_queue.proofs.Then.{chain_since}
 
 -- ---- the files, and the log without them
 
-flushed_released : (n : ℕ) (l : LogState) → l.unsynced ≡ [] → released n l ≡ before_number n l.files
+pub flushed_released : (n : ℕ) (l : LogState) → l.unsynced ≡ [] → released n l ≡ before_number n l.files
 flushed_released n l e = ap (λ (own : List ℕ). cond (length own == 0) (before_number n l.files) []) e
 
 -- the number that the code computes

@@ -79,3 +79,7 @@ pub record BecomesClean (old new : LiveState) (a b : Content) : Type 0 where
 pub record StaysWhole (old new : LiveState) (a b : Content) : Type 0 where
   pub adds : b.moments ≡ a.moments ++ moments_since a b
   pub whole : AllUnmarked a.now (moments_since a b) → IsQueueWhole old a.now.disk → IsQueueWhole new b.now.disk
+
+-- where its oldest file isn't dead, all is as it was: no file goes back
+abbrev pub StaysStill : LiveState → Content → Content → Type 0
+StaysStill q a b = IsQueueClean q a.now.disk → b ≡ a

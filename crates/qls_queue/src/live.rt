@@ -19,6 +19,7 @@ ghost use Rattle.std.specs.Ordering.{nat_cmp};
 ghost use Rattle.std.specs.Cmp.Lexicographic.{slice_cmp};
 ghost use Rattle.qls_model.specs.Bytes.{is_listed};
 ghost use Rattle.qls_model.specs.Messages.{with_message, message_at};
+ghost use Rattle.qls_model.specs.Sound.{IsNumbered};
 ghost use Rattle.qls_model.specs.Machine.{put_message, taken};
 ghost use Rattle.qls_queue.specs.Answers.{take_answer, BodyAnswer, body_at, numbered, is_pending};
 ghost use Rattle.qls_blocks.specs.Plans.{plan_of};
@@ -140,7 +141,7 @@ impl LiveQueue {
     /// reads these records on a disk and breaks no damage rule there, the journal says the queue.
     ///
     /// The log isn't ended, is a queue's and has nothing pending; the records' rids follow from each other up to the log's.
-    /// Only Memory is answered.
+    /// So numbers rise, up to the last one. Only Memory is answered.
     pub fn open(alloc: Global, log: Log, reads: &Seq<Got>) -> Result<LiveQueue, QueueError>
         requires unended { log.ended ≡ false }
         requires flushed { log.unsynced ≡ [] }
@@ -150,6 +151,7 @@ impl LiveQueue {
         ensures sound { IfOk result IsSound }
         ensures legal { IfOk result (λ q. IsSoundLog q.log) }
         ensures only { IfErr result (λ e. e ≡ QueueError.Memory) }
+        ensures numbered { IfOk result (λ q. IsNumbered q.queue) }
         ensures whole { IfOk result (λ q. (d : Disk) → (kept : List Read) → IsRead log kept d → IsUndamaged log d → filter (λ r. not (is_filler r.what.kind)) kept ≡ map read_of reads.now → IsQueueWhole q d) }
     {
         let mut tables = QueueReplay::new(alloc);

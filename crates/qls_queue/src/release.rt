@@ -14,7 +14,7 @@ ghost use Rattle.qls_log.specs.Unwritten.{WritesWell};
 ghost use Rattle.qls_queue.specs.Faults.{is_end, SiteCauses};
 ghost use Rattle.qls_queue.specs.Live.{QueueThere, IsSound};
 ghost use Rattle.qls_queue.specs.Moments.{GoesBy, LeavesDead, StaysWritten};
-ghost use Rattle.qls_queue.specs.Releasing.{dead_files, after_release, file_or, GivesDead, IsQueueWhole, IsQueueClean};
+ghost use Rattle.qls_queue.specs.Releasing.{dead_files, after_release, file_or, GivesDead, IsQueueWhole, IsQueueClean, StaysStill};
 
 use crate::fault::QueueError;
 use crate::live::LiveQueue;
@@ -51,6 +51,7 @@ impl LiveQueue {
         ensures pool { IfOk result (λ _. IfSome (S.told site.new) (OnDisk (IsWholePool pool.new))) }
         ensures limit { pool.old.greatest < 2 ^ 62 → pool.new.greatest < 2 ^ 62 }
         ensures clean { IfOk result (λ _. Carries (IsQueueWhole self.old) (IsQueueClean self.new) (S.told site.old) (S.told site.new)) }
+        ensures still { IfOk result (λ _. Tells (StaysStill self.old) (S.told site.old) (S.told site.new)) }
         ensures others { IfOk result (λ _. Tells (LeavesOthers (dead_files self.old)) (S.told site.old) (S.told site.new)) }
         ensures quiet { IfOk result (λ _. Carries IsQuiet IsQuiet (S.told site.old) (S.told site.new)) }
         ensures went { Tells (GoesBy (IsLogStep self.old.log.opening) result) (S.told site.old) (S.told site.new) }

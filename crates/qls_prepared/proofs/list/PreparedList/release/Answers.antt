@@ -9,11 +9,12 @@ use Rattle.qls_log.specs.Standing.{LogThere}
 use Rattle.qls_log.specs.Steps.{IsLogStep}
 use Rattle.qls_log.specs.Returning.{GivesAll, released}
 use Rattle.qls_log.proofs.AppendSteps.{told_whole_after}
-use Rattle.qls_prepared.specs.Lists.{PreparedState, IsSound, ThereBy, ListThere, BecomesClean}
+use Rattle.qls_prepared.specs.Lists.{PreparedState, IsSound, ThereBy, ListThere, BecomesClean, StaysStill}
 use Rattle.qls_prepared.specs.Moments.{LeavesDead, WritesOn}
 use Rattle.qls_prepared.specs.Releasing.{file_or, first_needed}
 use Rattle.qls_prepared.proofs.Fitting.{told_fit, told_released}
 use Rattle.qls_prepared.proofs.Released.{list_leaves, list_clean, list_sound, told_becomes, told_quiet}
+use Rattle.qls_prepared.proofs.Still.{told_still}
 use Rattle.qls_prepared.proofs.list.PreparedList.release.Goals as goal
 
 pub returns-in_err-release_before-clause-leaves : goal.returns-in_err-release_before-clause-leaves
@@ -83,3 +84,16 @@ pub returns-clause-writes : goal.returns-clause-writes
 returns-clause-writes g c =
     subst (λ (p : PreparedState). Tells (WritesOn {X = Unit {0}} (Ok tt) p.log (λ _. Some c.release_before.new.self)) (g.S.Site.told c.args.site.now) (g.S.Site.told c.release_before.new.site)) c.self.view_is
     (subst (λ (o : Option LogState). Tells (WritesOn {X = Unit {0}} (Ok tt) o (λ _. Some c.release_before.new.self)) (g.S.Site.told c.args.site.now) (g.S.Site.told c.release_before.new.site)) (sym c.in-Some.is) c.in_ok-release_before.ensures.writes)
+
+pub returns-clause-still : goal.returns-clause-still
+returns-clause-still g c =
+    let q : PreparedState = record { home = c.self.inside.home; log = c.self.inside.log; entries = c.self.inside.entries.entries; held = c.self.inside.entries.held; ended = c.self.inside.ended } in
+    let s : IsSound q = c.self.invariant (ap (λ (p : PreparedState). p.ended) c.self.view_is ∙ c.requires.unended) in
+    let l : LogState = c.in-Some.log in
+    let number : c.first_needed-number.result ≡ first_needed l q.held = c.first_needed-number.ensures.exact ∙ ap (λ n. file_or n (least_file q.held)) c.newest.ensures.exact in
+    let there : IfSome (g.S.Site.told c.args.site.now) (OnDisk (LogThere l)) =
+    subst (λ (o : Option LogState). IfSome (g.S.Site.told c.args.site.now) (OnDisk (ThereBy q.home o))) c.in-Some.is (subst (λ (p : PreparedState). IfSome (g.S.Site.told c.args.site.now) (OnDisk (ListThere p))) (sym c.self.view_is) c.requires.there) in
+    let back : Tells (GivesAll (released (first_needed l q.held) l) (Ok c.in_ok-release_before.field-0)) (g.S.Site.told c.args.site.now) (g.S.Site.told c.release_before.new.site) =
+    subst (λ n. Tells (GivesAll (released n l) (Ok c.in_ok-release_before.field-0)) (g.S.Site.told c.args.site.now) (g.S.Site.told c.release_before.new.site)) number c.in_ok-release_before.ensures.told in
+    subst (λ (p : PreparedState). Tells (StaysStill p) (g.S.Site.told c.args.site.now) (g.S.Site.told c.release_before.new.site)) c.self.view_is
+    (told_still q l c.in-Some.is s c.in_ok-release_before.field-0 _ _ there back)

@@ -8,8 +8,9 @@ use Rattle.qls_log.specs.Standing.{LogThere}
 use Rattle.qls_log.specs.Returning.{GivesAll, released}
 use Rattle.qls_queue.specs.Live.{LiveState, live, IsSound}
 use Rattle.qls_queue.specs.Moments.{LeavesDead, StaysWritten}
-use Rattle.qls_queue.specs.Releasing.{file_or, IsQueueWhole, IsQueueClean}
+use Rattle.qls_queue.specs.Releasing.{file_or, IsQueueWhole, IsQueueClean, StaysStill}
 use Rattle.qls_queue.proofs.Released.{needed_is, log_is, released_sound, released_one, queue_sound, told_clean, told_leaves, told_quiet}
+use Rattle.qls_queue.proofs.Still.{told_still}
 use Rattle.qls_queue.proofs.live.LiveQueue.release.Goals as goal
 
 pub returns-in_err-release_before-clause-leaves : goal.returns-in_err-release_before-clause-leaves
@@ -107,3 +108,17 @@ pub returns-clause-writes : goal.returns-clause-writes
 returns-clause-writes g c =
     subst (λ (q : LiveState). Tells (StaysWritten (Ok c.in_ok-release_before.field-0) q (live c.release_before.new.self c.self.inside.tables.held false)) (g.S.Site.told c.args.site.now) (g.S.Site.told c.release_before.new.site)) c.self.view_is
     c.in_ok-release_before.ensures.writes
+
+pub returns-clause-still : goal.returns-clause-still
+returns-clause-still g c =
+    let l : LogState = c.self.inside.log in
+    let hs : List Held = c.self.inside.tables.held in
+    let unended : c.self.inside.ended ≡ false = ap (λ (q : LiveState). q.ended) c.self.view_is ∙ c.requires.unended in
+    let s : IsSound (live l hs c.self.inside.ended) = c.self.invariant unended in
+    let needed : c.first_needed-number.result ≡ file_or l.newest (least_file hs) = needed_is _ _ l.newest _ hs c.first_needed-number.ensures.exact c.newest.ensures.exact c.held.ensures.same in
+    let old : live l hs false ≡ c.args.self.now = ap (live l hs) (sym unended) ∙ c.self.view_is in
+    let there : IfSome (g.S.Site.told c.args.site.now) (OnDisk (LogThere l)) = subst (λ (q : LiveState). IfSome (g.S.Site.told c.args.site.now) (OnDisk (LogThere q.log))) (sym c.self.view_is) c.requires.there in
+    let back : Tells (GivesAll (released (file_or l.newest (least_file hs)) l) (Ok c.in_ok-release_before.field-0)) (g.S.Site.told c.args.site.now) (g.S.Site.told c.release_before.new.site) =
+    subst (λ n. Tells (GivesAll (released n l) (Ok c.in_ok-release_before.field-0)) (g.S.Site.told c.args.site.now) (g.S.Site.told c.release_before.new.site)) needed c.in_ok-release_before.ensures.told in
+    subst (λ (q : LiveState). Tells (StaysStill q) (g.S.Site.told c.args.site.now) (g.S.Site.told c.release_before.new.site)) old
+    (told_still l hs false s.kind s.flushed c.in_ok-release_before.ensures.legal c.in_ok-release_before.field-0 _ _ there back)
