@@ -1,5 +1,5 @@
 -- What a put and a take answer, by what the queue answered.
-use Rattle.std.proofs.Common.{◌≡◌, ◌⊎◌, inl, inr, ℕ, Bool, true, false, cond, ◌+◌, ◌-◌, ◌^◌, ◌==◌, List, [], ◌∷◌, Option, Some, None, Result, Ok, Err, IfErr, refl, sym, ap, ◌∙◌, eq-eqb}
+use Rattle.std.proofs.Common.{◌≡◌, ◌⊎◌, inl, inr, ℕ, Bool, true, false, cond, ◌+◌, ◌-◌, ◌^◌, ◌==◌, List, [], ◌∷◌, Option, Some, None, Result, Ok, Err, IfErr, refl, sym, ap, subst, ◌∙◌, eq-eqb}
 use Rattle.std.specs.Prelude.{is_err}
 use Rattle.std.proofs.lemmas.Bool.{eqb-true}
 use Rattle.qls_model.specs.Machine.{is_ready, taken}
@@ -7,15 +7,18 @@ use Rattle.qls_model.specs.declared.machine.Message.{Message}
 use Rattle.qls_model.specs.declared.machine.QueueState.{QueueState}
 use Rattle.qls_model.specs.declared.machine.Refusal.{Refusal}
 use Rattle.qls_model.specs.declared.machine.Refusal.TheVariants as refusal
+use Rattle.qls_site.specs.Content.{Content}
 use Rattle.qls_decide.specs.declared.End.{End}
+use Rattle.qls_pool.specs.Serials.{DrawsTaken}
 use Rattle.qls_queue.specs.Answers.{take_answer}
 use Rattle.qls_queue.specs.Faults.{is_fault, QueueCauses}
+use Rattle.qls_queue.specs.Moments.{is_exact_error}
 use Rattle.qls_queue.specs.Records.{ended_by}
 use Rattle.qls_queue.specs.declared.fault.QueueError.{QueueError}
 use Rattle.qls_queue.specs.declared.fault.QueueError.TheVariants as queue
 use Rattle.qls_journals.specs.declared.cause.Cause.{Cause}
 use Rattle.qls_journals.specs.declared.cause.Cause.TheVariants as cause
-use Rattle.qls_journals.specs.Answers.{put_answer, take_by, StoreCauses}
+use Rattle.qls_journals.specs.Answers.{put_answer, take_by, is_exact, StoreCauses}
 use Rattle.qls_journals.specs.Errors.{by_error}
 use Rattle.qls_journals.proofs.Placed.{isnt_last}
 
@@ -64,6 +67,9 @@ ends_numbers f k e is = differ (e ∙ ap by_error is)
   where
     differ : Ends queue.Numbers k → ⊥
     differ h = cc
+
+cause_is : {k l : Cause} → ◌≡◌ {A = Result Refusal Cause} (Err k) (Err l) → k ≡ l
+cause_is h = cc
 
 -- ---- a take
 
@@ -172,6 +178,18 @@ err_is h = cc
 
 pub no_both : true ≡ false → ⊥
 no_both e = cc
+
+-- ---- what was drawn
+
+-- by the cause that the error is
+pub drawn_of : (Y : Type 0) (e : QueueError) (k : Cause) (a b : Option Content) (x y : Option (List ℕ)) → Ends e k → DrawsTaken (is_exact_error e) a b x y → DrawsTaken (is_exact {X = Y} (Err k)) a b x y
+drawn_of Y queue.Failed k a b x y h d = subst (λ c. DrawsTaken (is_exact {X = Y} (Err c)) a b x y) (sym (cause_is h)) d
+drawn_of Y queue.Draw k a b x y h d = subst (λ c. DrawsTaken (is_exact {X = Y} (Err c)) a b x y) (sym (cause_is h)) d
+drawn_of Y queue.Spent k a b x y h d = subst (λ c. DrawsTaken (is_exact {X = Y} (Err c)) a b x y) (sym (cause_is h)) d
+drawn_of Y queue.Memory k a b x y h d = subst (λ c. DrawsTaken (is_exact {X = Y} (Err c)) a b x y) (sym (cause_is h)) d
+drawn_of Y queue.Unknown k a b x y h d = absurd (cc)
+drawn_of Y queue.Locked k a b x y h d = absurd (cc)
+drawn_of Y queue.Numbers k a b x y h d = absurd (cc)
 
 -- ---- counts of faults
 

@@ -4,7 +4,6 @@ use Rattle.std.specs.List.{AllByRecursion, remove, slice_get, filter}
 use Rattle.std.proofs.lemmas.Option.{get_or_from_slice_get, slice_get_within}
 use Rattle.qls_model.specs.Bytes.{same}
 use Rattle.qls_model.specs.Machine.{without_queue}
-use Rattle.qls_model.specs.declared.machine.PoolId.{PoolId}
 use Rattle.qls_site.specs.Disk.{Disk, FileState, IsQuiet, file_of, full, full_file}
 use Rattle.qls_site.specs.Content.{Moment, Content, Tells, moments_since}
 use Rattle.qls_site.proofs.Told.{Tells-weaken}
@@ -32,19 +31,19 @@ use Rattle.qls_queue.specs.Live.{LiveState, QueueThere}
 use Rattle.qls_queue.specs.Moments.{LeavesDead as QueueLeavesDead, GoesBy}
 use Rattle.qls_queue.specs.declared.fault.QueueError.{QueueError}
 use Rattle.qls_queue.specs.declared.fault.QueueError.TheVariants as queue
-use Rattle.qls_queue.specs.Releasing.{IsQueueClean}
+use Rattle.qls_queue.specs.Releasing.{IsQueueWhole}
 use Rattle.qls_journals.specs.declared.cause.Cause.{Cause}
 use Rattle.qls_journals.specs.declared.cause.Cause.TheVariants.{Failed, Draw, Spent, Memory}
-use Rattle.qls_journals.specs.State.{JournalsState, queues_of, queue_held, IsKept, AreJournals, NamesJournal, Fits, IsWhole, IsListAlive}
+use Rattle.qls_journals.specs.State.{JournalsState, queues_of, queue_held, IsKept, IsReleased, AreReleased, AreJournals, AreQueuesAlive, NamesJournal, Fits, IsWhole, IsListAlive}
 use Rattle.qls_journals.specs.Answers.{SiteCauses}
 use Rattle.qls_journals.specs.Errors.{by_error}
-use Rattle.qls_journals.specs.Homes.{Homes, homes_of, with_home, SameHomes, IsOfHome, TakesFromHome}
+use Rattle.qls_journals.specs.Homes.{Home, Homes, home_for, homes_of, with_home, SameHomes, TakesFrom, TakesFromHome}
 use Rattle.qls_journals.specs.Moments.{IsStoreStep, Changes, LeavesDead, StaysWritten}
 use Rattle.qls_journals.specs.Places.{StandsAt}
 use Rattle.qls_journals.proofs.FitPools.{IsFitDisk, fit_disk, fit_pool, given_back, own_pool}
 use Rattle.qls_journals.proofs.Making.{all_two, all_three}
 use Rattle.qls_journals.proofs.Names.{held_of, all_at}
-use Rattle.qls_journals.proofs.Others.{found_all, store_arrival, store_passing, queue_kept, queue_clean_kept, written_kept, other_name, other_list, named_kept, queue_named_by, ids_kept, list_kept, list_whole_kept, list_alive_kept, list_written_kept, FilesStayWritten}
+use Rattle.qls_journals.proofs.Others.{found_all, store_arrival, store_passing, queue_kept, IsAlive, queue_whole_kept, queue_alive_kept, written_kept, other_name, other_list, named_kept, queue_named_by, ids_kept, list_kept, list_whole_kept, list_alive_kept, list_written_kept, FilesStayWritten}
 use Rattle.qls_journals.proofs.Removing.{all_remove, rises_remove, others_left, queues_remove, held_remove}
 use Rattle.qls_journals.proofs.Writing.{passes_of}
 
@@ -91,15 +90,19 @@ pub record IsDropped (s : JournalsState) (at : ℕ) (name : List ℕ) (q : LiveS
   pub is_name : q.queue.name ≡ name
   pub held : queue_held name s.queues ≡ Some q
   pub empty : q.queue.messages ≡ []
+  pub one : length q.log.files ≡ 1
 
-pub dropped_there : (s t : JournalsState) (same_store : s ≡ t) (name : List ℕ) (at : ℕ) (q : LiveState) → StandsAt t.queues name at → IfSome (slice_get t.queues at) (λ u. u.queue.messages ≡ []) → q ≡ get_or s.queues at q → IsDropped t at name q
-dropped_there s t same_store name at q w empty is =
+pub dropped_there : (s t : JournalsState) (same_store : s ≡ t) (name : List ℕ) (at : ℕ) (q : LiveState) → StandsAt t.queues name at → IfSome (slice_get t.queues at) (λ u. u.queue.messages ≡ []) → IfSome (slice_get t.queues at) IsReleased → q ≡ get_or s.queues at q
+    → IsDropped t at name q
+dropped_there s t same_store name at q w empty released is =
     let alike : w.queue ≡ q = sym (subst (λ (x : JournalsState). q ≡ get_or x.queues at q) same_store is ∙ get_or_from_slice_get t.queues at w.queue q w.there) in
+    let none : q.queue.messages ≡ [] = subst (λ (u : LiveState). u.queue.messages ≡ []) alike (subst (λ (o : Option LiveState). IfSome o (λ u. u.queue.messages ≡ [])) w.there empty) in
     record {
       place = subst (λ (u : LiveState). slice_get t.queues at ≡ Some u) alike w.there;
       is_name = ap (λ (u : LiveState). u.queue.name) (sym alike) ∙ w.named;
       held = subst (λ (u : LiveState). queue_held name t.queues ≡ Some u) alike w.held;
-      empty = subst (λ (u : LiveState). u.queue.messages ≡ []) alike (subst (λ (o : Option LiveState). IfSome o (λ u. u.queue.messages ≡ [])) w.there empty);
+      empty = none;
+      one = subst IsReleased alike (subst (λ (o : Option LiveState). IfSome o IsReleased) w.there released) none;
     }
 
 pub place_within : (s t : JournalsState) → s ≡ t → (name : List ℕ) (at : ℕ) → StandsAt t.queues name at → at < length s.queues
@@ -125,10 +128,10 @@ module _ (s : JournalsState) (store : AreJournals s) (at : ℕ) (name : List ℕ
   stands_there (Some a) fits = all_at (λ u. QueueThere u a.now.disk) s.queues at q fits.queues gone.place
 
   pub leaves_so : (a b : Option Content) → Tells (QueueLeavesDead q) a b → Tells (LeavesDead s) a b
-  leaves_so a b h = Tells-weaken (QueueLeavesDead q) (LeavesDead s) a b h (λ x y k quiet unmarked all. k quiet unmarked (all_at (λ u. IsQueueClean u x.now.disk) s.queues at q all.queues gone.place).whole)
+  leaves_so a b h = Tells-weaken (QueueLeavesDead q) (LeavesDead s) a b h (λ x y k quiet unmarked all. k quiet unmarked (all_at (λ u. IsQueueWhole u x.now.disk) s.queues at q all.queues gone.place))
 
   pub store_passes : {X : Type 0} (r : Result X QueueError) (a b : Option Content) → Tells (GoesBy (IsLogStep o) r) a b → Tells (Passes IsStoreStep) a b
-  store_passes r a b h = Tells-weaken (Passes (IsLogStep o)) (Passes IsStoreStep) a b (passes_of (IsLogStep o) r a b h) (λ x y k. store_passing o kept_queue.epoch x y k)
+  store_passes r a b h = Tells-weaken (Passes (IsLogStep o)) (Passes IsStoreStep) a b (passes_of (IsLogStep o) r a b h) (store_passing o)
 
   module _ (left : PoolState) where
     abbrev pub after : JournalsState
@@ -137,6 +140,9 @@ module _ (s : JournalsState) (store : AreJournals s) (at : ℕ) (name : List ℕ
     pub store_after : AreJournals after
     store_after = record { home = store.home; kept = all_remove IsKept s.queues at store.kept; rising = rises_remove s.queues at store.rising; list = store.list }
 
+    pub released_after : AreReleased s.queues → AreReleased (remove s.queues at)
+    released_after h = all_remove IsReleased s.queues at h
+
     pub queues_after : queues_of after ≡ without_queue name (queues_of s)
     queues_after = sym (queues_remove s.queues at q store.rising gone.place) ∙ ap (λ n. without_queue n (map held_of s.queues)) gone.is_name
 
@@ -144,10 +150,10 @@ module _ (s : JournalsState) (store : AreJournals s) (at : ℕ) (name : List ℕ
     found n = held_remove n s.queues at q store.rising gone.place ∙ ap (λ k. cond (same k n) None (queue_held n s.queues)) gone.is_name
 
     pub homes_after : SameHomes (homes_of after) (with_home name None (homes_of s))
-    homes_after = record { default = refl; queue = λ n. ap home_of (found n) ∙ by n (same name n) }
+    homes_after = record { default = refl; queue = λ n. ap home_of (found n) ∙ by n (same name n); list = refl }
       where
-        home_of : Option LiveState → Option PoolId
-        home_of u = option_map (λ (u : LiveState). u.log.opening.home) u
+        home_of : Option LiveState → Option Home
+        home_of u = option_map (λ (u : LiveState). home_for u.log.opening) u
 
         by : (n : List ℕ) (b : Bool) → home_of (cond b None (queue_held n s.queues)) ≡ cond b None ((homes_of s).queue n)
         by n true = refl
@@ -194,10 +200,15 @@ module _ (s : JournalsState) (store : AreJournals s) (at : ℕ) (name : List ℕ
       pub whole_after : IsWhole s a.now.disk → IsWhole after b.now.disk
       whole_after all = record {
         queues =
-            all_three IsKept (λ u. same o.name u.queue.name ≡ false) (λ u. IsQueueClean u a.now.disk) (λ u. IsQueueClean u b.now.disk)
-            (λ u kept other k. queue_clean_kept o u a b (other_name o u kept_queue.sound.kind kept other) went k) (remove s.queues at) kept_rest others (all_remove (λ u. IsQueueClean u a.now.disk) s.queues at all.queues);
+            all_three IsKept (λ u. same o.name u.queue.name ≡ false) (λ u. IsQueueWhole u a.now.disk) (λ u. IsQueueWhole u b.now.disk)
+            (λ u kept other k. queue_whole_kept o u a b (other_name o u kept_queue.sound.kind kept other) went k) (remove s.queues at) kept_rest others (all_remove (λ u. IsQueueWhole u a.now.disk) s.queues at all.queues);
         list = list_whole_kept o not_list a b went s.list store.list.sound all.list;
       }
+
+      pub queues_alive_after : AreQueuesAlive s.queues a.now.disk → AreQueuesAlive (remove s.queues at) b.now.disk
+      queues_alive_after alive =
+          all_three IsKept (λ u. same o.name u.queue.name ≡ false) (λ u. IsAlive u a.now.disk) (λ u. IsAlive u b.now.disk)
+          (λ u kept other k. queue_alive_kept o u a b (other_name o u kept_queue.sound.kind kept other) went k) (remove s.queues at) kept_rest others (all_remove (λ u. IsAlive u a.now.disk) s.queues at alive)
 
     pub changes_dropped : (a b : Option Content) → IfSome a (OnDisk (Fits s)) → Tells (Arrives (IsLogStep o)) a b → Carries IsQuiet IsQuiet a b → IfSome b (OnDisk (λ d. files_on o d ≡ [])) → IfSome b (OnDisk (IsWholePool left))
         → Tells (GivesAll q.log.files (Ok tt)) a b → Tells (Changes s after) a b
@@ -205,10 +216,11 @@ module _ (s : JournalsState) (store : AreJournals s) (at : ℕ) (name : List ℕ
     changes_dropped None (Some y) fits went quiet none whole back = absurd went
     changes_dropped (Some x) None fits went quiet none whole back = absurd went
     changes_dropped (Some x) (Some y) fits went quiet none whole back = record {
-      arrives = store_arrival o kept_queue.epoch x y went;
+      arrives = store_arrival o x y went;
       quiet = quiet;
       fits = fits_after x y went fits none whole back;
       whole = λ unmarked all. whole_after x y went all;
+      alive = λ unmarked all alive. queues_alive_after x y went alive;
     }
 
     pub alive_dropped : (a b : Option Content) → Tells (Arrives (IsLogStep o)) a b → Carries (IsListAlive s) (IsListAlive after) a b
@@ -243,11 +255,11 @@ nothing_left f (x ∷ xs) ys e = absurd (no_cons (f x) (map f xs ++ ys) e)
 
 untaken_step : (homes : Homes) (m n : Moment) → newly_used m n ≡ [] → TakesFromHome homes m n
 untaken_step homes m n none =
-    all_weaken (λ g. is_in_use g.place ≡ true → not (uses g.id m) ≡ true → ⊥) (λ g. IsOfHome homes (file_of g.id m.disk) g) (λ g k. by g (file_of g.id m.disk) refl k) n.disk
+    all_weaken (λ g. is_in_use g.place ≡ true → not (uses g.id m) ≡ true → ⊥) (λ g. TakesFrom homes m.disk (file_of g.id m.disk) g) (λ g k. by g (file_of g.id m.disk) refl k) n.disk
     (back_in_use (λ x. not (uses x.id m) ≡ true → ⊥) n.disk
     (back_filter (λ x. not (uses x.id m)) (λ x. ⊥) (map headed (in_use (full n.disk))) (subst (AllByRecursion (λ (x : Headed). ⊥)) (sym none) tt)))
   where
-    by : (g : FileState) (o : Option FileState) → file_of g.id m.disk ≡ o → (is_in_use g.place ≡ true → not (uses g.id m) ≡ true → ⊥) → IsOfHome homes o g
+    by : (g : FileState) (o : Option FileState) → file_of g.id m.disk ≡ o → (is_in_use g.place ≡ true → not (uses g.id m) ≡ true → ⊥) → TakesFrom homes m.disk o g
     by g None e k = tt
     by g (Some f) e k = λ was used. absurd (k used (ap (λ o. not (is_file_in_use o)) e ∙ ap not was))
 
@@ -332,6 +344,9 @@ module _ (s t : JournalsState) (same_store : s ≡ t) (store : AreJournals t) (a
 
   pub handed_homes : SameHomes (homes_of handed) (with_home name None (homes_of t))
   handed_homes = subst (λ (x : JournalsState). SameHomes (homes_of x) (with_home name None (homes_of t))) handed_is (homes_after t store at name q gone left)
+
+  pub handed_released : AreReleased t.queues → AreReleased handed.queues
+  handed_released h = subst (λ (x : JournalsState). AreReleased x.queues) handed_is (released_after t store at name q gone left h)
 
   pub handed_changes : (a b : Option Content) → IfSome a (OnDisk (Fits t)) → Tells (Arrives (IsLogStep q.log.opening)) a b → Carries IsQuiet IsQuiet a b → IfSome b (OnDisk (λ e. files_on q.log.opening e ≡ [])) → IfSome b (OnDisk (IsWholePool left))
       → Tells (GivesAll q.log.files (Ok tt)) a b → Tells (Changes t handed) a b

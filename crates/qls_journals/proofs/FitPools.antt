@@ -125,7 +125,7 @@ all_before P n (x ∷ []) h = tt
 all_before P n (x ∷ y ∷ hs) h =
     elim (ltb x.header.number n) as (λ b. AllByRecursion P (cond b (x ∷ before_number n (y ∷ hs)) [])) [ true ↦ (h.0, all_before P n (y ∷ hs) h.1) | false ↦ tt ]
 
-all_released : (P : HeadedFile → Type 0) (n : ℕ) (l : LogState) → AllByRecursion P l.files → AllByRecursion P (released n l)
+pub all_released : (P : HeadedFile → Type 0) (n : ℕ) (l : LogState) → AllByRecursion P l.files → AllByRecursion P (released n l)
 all_released P n l h = elim (length l.unsynced == 0) as (λ b. AllByRecursion P (cond b (before_number n l.files) [])) [ true ↦ all_before P n l.files h | false ↦ tt ]
 
 pub given_back : (o : Opening) → IsWithin o.home.part o.home.kib → (hs : List HeadedFile) → AllByRecursion (IsOfPool o) hs → (c : Content) → Fits c → Fits (with_backs hs c)
@@ -135,7 +135,7 @@ given_back o within (h ∷ hs) own c k =
 
 -- ---- a batch, and the files that died by it
 
-legal_within : (o : Opening) → IsLegalOpening o → IsWithin o.home.part o.home.kib
+pub legal_within : (o : Opening) → IsLegalOpening o → IsWithin o.home.part o.home.kib
 legal_within o h = (h.part, h.kib)
 
 module _ (rs : List Record) (old mid : LogState) (pool left : PoolState) (taken : List HeadedFile) (sound : IsSound old) (appended : HasAppended rs old mid taken) where

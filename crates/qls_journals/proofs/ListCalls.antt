@@ -1,6 +1,7 @@
 -- The prepared list is changed by a call, and all queues stay: what holds of the journals then.
 use Rattle.std.proofs.Common.{◌≡◌, true, false, ◌^◌, ◌<◌, List, [], ◌∷◌, Option, Some, None, IfSome, Result, Ok, Err, refl, sym, ap, ◌∙◌, subst}
 use Rattle.std.specs.List.{AllByRecursion}
+use Rattle.qls_model.specs.declared.machine.PoolId.{PoolId}
 use Rattle.qls_site.specs.Disk.{Disk, FileState, IsQuiet, file_of}
 use Rattle.qls_site.specs.Content.{Moment, Content, Tells, moments_since}
 use Rattle.qls_site.proofs.Told.{Tells-weaken}
@@ -13,20 +14,21 @@ use Rattle.qls_pool.proofs.Moments.{Passes-of, chain_weaken, since_is}
 use Rattle.qls_log.specs.declared.fault.LogError.{LogError}
 use Rattle.qls_log.specs.declared.fault.LogError.TheVariants as log
 use Rattle.qls_log.specs.declared.opening.Opening.{Opening}
+use Rattle.qls_log.specs.Logs.{LogState}
 use Rattle.qls_log.specs.Leaving.{NoneLeaves, RemainsInUse, LeavesFile, LeavesInOrder}
 use Rattle.qls_log.specs.Steps.{IsLogStep, GoesBy}
 use Rattle.qls_log.specs.Unwritten.{IsWrittenTo, history_with}
 use Rattle.qls_queue.specs.Live.{QueueThere}
-use Rattle.qls_queue.specs.Releasing.{IsQueueClean}
-use Rattle.qls_prepared.specs.Lists.{PreparedState, opening_by, IsSound, ListThere, IsListWhole, StaysWhole, BecomesClean as ListBecomesClean}
+use Rattle.qls_queue.specs.Releasing.{IsQueueWhole}
+use Rattle.qls_prepared.specs.Lists.{PreparedState, opening_by, IsOwn, IsSound, ListThere, IsListWhole, StaysWhole, BecomesClean as ListBecomesClean}
 use Rattle.qls_prepared.specs.Moments.{WrittenBy, LeavesDead as ListLeavesDead, StaysWritten as ListStaysWritten}
 use Rattle.qls_prepared.specs.Ends.{IsFitPool, KeepsFit}
 use Rattle.qls_journals.specs.declared.cause.Cause.{Cause}
-use Rattle.qls_journals.specs.State.{JournalsState, IsKept, AreJournals, AreQueuesClean, Fits}
-use Rattle.qls_journals.specs.Homes.{homes_of, home_by, SameHomes, TakesFromHome}
+use Rattle.qls_journals.specs.State.{JournalsState, IsKept, AreJournals, AreQueuesAlive, Fits, IsWhole}
+use Rattle.qls_journals.specs.Homes.{homes_of, home_by, home_for, SameHomes, TakesFromHome}
 use Rattle.qls_journals.specs.Moments.{IsStoreStep, Changes, BecomesClean, LeavesDead, StaysWritten, AreWritten}
 use Rattle.qls_journals.proofs.AllJournals.{all_joined}
-use Rattle.qls_journals.proofs.Others.{FilesStayWritten, store_arrival, store_passing, home_passing, queue_kept, queue_clean_kept, written_kept, other_queue, named_kept, list_named_by, ids_kept}
+use Rattle.qls_journals.proofs.Others.{FilesStayWritten, store_arrival, store_passing, home_passing, queue_kept, IsAlive, queue_whole_kept, queue_alive_kept, written_kept, other_queue, named_kept, list_named_by, ids_kept}
 
 -- ---- a call on the list, whatever it answered
 
@@ -67,24 +69,32 @@ leaves_dead s a b h = Tells-weaken (ListLeavesDead s.list) (LeavesDead s) a b h 
 abbrev pub own_opening : PreparedState → Opening
 own_opening p = opening_by p.home p.log
 
-own_kind : (s : JournalsState) → AreJournals s → (own_opening s.list).kind ≡ TheList
-own_kind s all = ap (λ (o : Opening). o.kind) all.list.opening
+pub kind_by : (home : PoolId) (log : Option LogState) → IsOwn log → (opening_by home log).kind ≡ TheList
+kind_by home None own = refl
+kind_by home (Some l) own = own.kind
 
-own_name : (s : JournalsState) → AreJournals s → (own_opening s.list).name ≡ []
-own_name s all = ap (λ (o : Opening). o.name) all.list.opening
+pub name_by : (home : PoolId) (log : Option LogState) → IsOwn log → (opening_by home log).name ≡ []
+name_by home None own = refl
+name_by home (Some l) own = own.name
 
-pub own_epoch : (s : JournalsState) → AreJournals s → (own_opening s.list).epoch ≡ 1
-own_epoch s all = ap (λ (o : Opening). o.epoch) all.list.opening
+pub own_kind : (s : JournalsState) → AreJournals s → (own_opening s.list).kind ≡ TheList
+own_kind s all = kind_by s.list.home s.list.log all.list.sound.log
+
+pub own_name : (s : JournalsState) → AreJournals s → (own_opening s.list).name ≡ []
+own_name s all = name_by s.list.home s.list.log all.list.sound.log
+
+pub own_home : (s : JournalsState) → AreJournals s → home_by (own_opening s.list).kind (own_opening s.list).name (homes_of s) ≡ Some (home_for (own_opening s.list))
+own_home s all = λ i. home_by (own_kind s all i) (own_name s all i) (homes_of s)
 
 pub list_passes : {X : Type 0} (s : JournalsState) (all : AreJournals s) (v : Result X LogError) (a b : Option Content) → Tells (GoesBy (IsLogStep (own_opening s.list)) v) a b → Tells (Passes IsStoreStep) a b
 list_passes s all v a b h =
     let o : Opening = own_opening s.list in
-    Tells-weaken (Passes (IsLogStep o)) (Passes IsStoreStep) a b (passes_of (IsLogStep o) v a b h) (store_passing o (own_epoch s all))
+    Tells-weaken (Passes (IsLogStep o)) (Passes IsStoreStep) a b (passes_of (IsLogStep o) v a b h) (store_passing o)
 
 pub list_pools : {X : Type 0} (s : JournalsState) (all : AreJournals s) (v : Result X LogError) (a b : Option Content) → Tells (GoesBy (IsLogStep (own_opening s.list)) v) a b → Tells (Passes (TakesFromHome (homes_of s))) a b
 list_pools s all v a b h =
     let o : Opening = own_opening s.list in
-    Tells-weaken (Passes (IsLogStep o)) (Passes (TakesFromHome (homes_of s))) a b (passes_of (IsLogStep o) v a b h) (home_passing o (homes_of s) (subst (λ (p : Opening). home_by p.kind p.name (homes_of s) ≡ Some p.home) (sym all.list.opening) refl))
+    Tells-weaken (Passes (IsLogStep o)) (Passes (TakesFromHome (homes_of s))) a b (passes_of (IsLogStep o) v a b h) (home_passing o (homes_of s) (own_home s all))
 
 pub list_writes_failed : {X Y : Type 0} (s : JournalsState) (v : Result X LogError) (new : PreparedState) (e : Cause) (after : Y → JournalsState) (a b : Option Content) → Tells (ListStaysWritten v s.list new) a b
     → Tells (StaysWritten {X = Y} {E = Cause} (Err e) after s) a b
@@ -121,11 +131,11 @@ module _ (s : JournalsState) (all : AreJournals s) (new : PreparedState) (left :
     home = all.home;
     kept = all.kept;
     rising = all.rising;
-    list = record { unended = next.unended; sound = next.sound; home = next.home ∙ all.list.home; opening = next.opening ∙ all.list.opening };
+    list = record { unended = next.unended; sound = next.sound; home = next.home ∙ all.list.home };
   }
 
   pub list_homes_kept : SameHomes (homes_of with_list) (homes_of s)
-  list_homes_kept = record { default = refl; queue = λ n. refl }
+  list_homes_kept = record { default = refl; queue = λ n. refl; list = ap home_for next.opening }
 
   module _ (a b : Content) (went : Arrives (IsLogStep o) a b) where
     list_fits_after : Fits s a.now.disk → ListThere new b.now.disk → IsWholePool left b.now.disk → (s.pool.greatest < 2 ^ 62 → left.greatest < 2 ^ 62) → (IsFitPool s.pool → IsFitPool left) → Fits with_list b.now.disk
@@ -139,20 +149,29 @@ module _ (s : JournalsState) (all : AreJournals s) (new : PreparedState) (left :
       own = named_kept s.queues o (list_named_by s.queues o (own_kind s all) (own_name s all)) a b went fits.own;
     }
 
-    queues_clean_after : AreQueuesClean s.queues a.now.disk → AreQueuesClean s.queues b.now.disk
-    queues_clean_after clean = all_joined IsKept (λ u. IsQueueClean u a.now.disk) (λ u. IsQueueClean u b.now.disk) (λ u k c. queue_clean_kept o u a b (other_queue o u (own_kind s all) k) went c) s.queues all.kept clean
+    list_whole_after : IsListWhole new b.now.disk → IsWhole s a.now.disk → IsWhole with_list b.now.disk
+    list_whole_after own was = record {
+      queues = all_joined IsKept (λ u. IsQueueWhole u a.now.disk) (λ u. IsQueueWhole u b.now.disk) (λ u k w. queue_whole_kept o u a b (other_queue o u (own_kind s all) k) went w) s.queues all.kept was.queues;
+      list = own;
+    }
+
+    queues_alive_after : AreQueuesAlive s.queues a.now.disk → AreQueuesAlive s.queues b.now.disk
+    queues_alive_after alive = all_joined IsKept (λ u. IsAlive u a.now.disk) (λ u. IsAlive u b.now.disk) (λ u k c. queue_alive_kept o u a b (other_queue o u (own_kind s all) k) went c) s.queues all.kept alive
 
     changes_by : Fits s a.now.disk → (IsQuiet a.now.disk → IsQuiet b.now.disk) → ListThere new b.now.disk → IsWholePool left b.now.disk → (s.pool.greatest < 2 ^ 62 → left.greatest < 2 ^ 62) → (IsFitPool s.pool → IsFitPool left)
         → (AllUnmarked a.now (moments_since a b) → IsListWhole s.list a.now.disk → IsListWhole new b.now.disk) → Changes s with_list a b
     changes_by fits quiet there whole limit fit stays = record {
-      arrives = store_arrival o (own_epoch s all) a b went;
+      arrives = store_arrival o a b went;
       quiet = quiet;
       fits = list_fits_after fits there whole limit fit;
-      whole = λ unmarked was. record { queues = queues_clean_after was.queues; list = stays unmarked was.list };
+      whole = λ unmarked was. list_whole_after (stays unmarked was.list) was;
+      alive = λ unmarked was alive. queues_alive_after alive;
     }
 
     clean_by : ListBecomesClean s.list new a b → BecomesClean s with_list a b
-    clean_by becomes = λ unmarked was. record { queues = queues_clean_after was.queues; list = becomes.clean unmarked was.list }
+    clean_by becomes = λ unmarked was alive.
+        let own = becomes.clean unmarked was.list in
+        record { whole = list_whole_after own.whole was; queues = queues_alive_after alive; list = own.alive }
 
   changes_told : (a b : Option Content) → IfSome a (OnDisk (Fits s)) → ListCallDone s.list new s.pool left a b
       → Tells (λ x y. AllUnmarked x.now (moments_since x y) → IsListWhole s.list x.now.disk → IsListWhole new y.now.disk) a b → Tells (Changes s with_list) a b

@@ -3,7 +3,6 @@ use Rattle.std.proofs.Common.{◌≡◌, ◌⊎◌, inl, inr, ℕ, Bool, true, f
 use Rattle.std.specs.List.{IsDistinct}
 use Rattle.qls_record.specs.Record.{Record}
 use Rattle.qls_model.specs.Bytes.{same}
-use Rattle.qls_model.specs.declared.machine.PoolId.{PoolId}
 use Rattle.qls_site.specs.Disk.{Disk}
 use Rattle.qls_site.specs.Content.{Content, Tells, moments_since}
 use Rattle.qls_filehdr.specs.declared.JournalKind.TheVariants.{List as Listed}
@@ -14,46 +13,49 @@ use Rattle.qls_meaning.specs.Journals.{Headed}
 use Rattle.qls_meaning.specs.Orderly.{journal_on}
 use Rattle.qls_meaning.specs.Spent.{new_journal_meets_end}
 use Rattle.qls_blocks.specs.Batching.{length_of, block_length}
-use Rattle.qls_pool.specs.Pools.{PoolState, IsSpent}
+use Rattle.qls_pool.specs.Pools.{PoolState}
 use Rattle.qls_pool.specs.Files.{IsWholePool, OnDisk}
 use Rattle.qls_pool.specs.Moments.{Arrives}
 use Rattle.qls_log.specs.declared.fault.LogError.{LogError}
 use Rattle.qls_log.specs.declared.fault.LogError.TheVariants as log
-use Rattle.qls_log.specs.declared.opening.Opening.{Opening}
 use Rattle.qls_log.specs.Logs.{LogState}
-use Rattle.qls_log.specs.Steps.{IsLogStep, GoesBy, room_behind, is_exact as is_exact_log}
+use Rattle.qls_log.specs.Steps.{IsLogStep, GoesBy, is_exact as is_exact_log}
 use Rattle.qls_pool.specs.Serials.{DrawsTaken}
-use Rattle.qls_prepared.specs.Lists.{PreparedState, opening_of, opening_by, IsOwn, ThereBy, WholeBy}
+use Rattle.qls_prepared.specs.Lists.{PreparedState, opening_by, IsOwn, IsOwnLog, ThereBy, WholeBy}
 use Rattle.qls_prepared.specs.Records.{without_entries}
 use Rattle.qls_prepared.specs.Ends.{Stops, IsAtEnd}
 use Rattle.qls_journals.specs.declared.cause.Cause.{Cause}
 use Rattle.qls_journals.specs.declared.cause.Cause.TheVariants as cause
 use Rattle.qls_journals.specs.Answers.{is_exact}
-use Rattle.qls_journals.specs.Ends.{at_end_of, batch_at_end, StopsAtEnd, HadRoom}
+use Rattle.qls_journals.specs.Ends.{at_end_in, batch_at_end, StopsAtEnd, HadRoom}
 use Rattle.qls_journals.specs.Errors.{cause_by}
+use Rattle.qls_journals.specs.Homes.{Home, Homes, home_by, home_for, homes_of}
 use Rattle.qls_journals.specs.State.{JournalsState, AreJournals, Fits}
 use Rattle.qls_journals.proofs.Ending.{HasItsRoom, spent_of_disk, batch_had, batch_ends}
 use Rattle.qls_journals.proofs.Others.{store_arrival}
-use Rattle.qls_journals.proofs.ListCalls.{own_opening, own_epoch}
+use Rattle.qls_journals.proofs.ListCalls.{own_opening}
 
 -- ---- without a file
 
 -- then the end is that of a new journal
-end_without : (default : PoolId) (rs : List Record) (d : Disk) → (journal_on d Listed []).files ≡ [] → batch_at_end default Listed [] rs d ≡ new_journal_meets_end default d
-end_without default rs d none = ap (λ (fs : List Headed). at_end_of default d fs (room_behind (journal_on d Listed [])) (block_length (length_of rs))) none
+end_without : (homes : Homes) (rs : List Record) (d : Disk) → (journal_on d Listed []).files ≡ [] → batch_at_end homes Listed [] rs d ≡ new_journal_meets_end homes.list.pool d
+end_without homes rs d none = ap (λ (fs : List Headed). at_end_in homes.list d (journal_on d Listed []) fs (block_length (length_of rs))) none
+
+-- the list's home is that of its log
+home_of : (homes : Homes) (l : LogState) → IsOwnLog l → homes.list ≡ home_for l.opening → home_by l.opening.kind l.opening.name homes ≡ Some (home_for l.opening)
+home_of homes l own is = (λ i. home_by (own.kind i) (own.name i) homes) ∙ ap (λ (h : Home). Some h) is
 
 -- ---- where the call wrote
 
-module _ (law : HasItsRoom) (default : PoolId) (rs : List Record) (pool : PoolState) (d : Disk) (whole : IsWholePool pool d) (p : PreparedState) (home : p.home ≡ default) where
-  had_by : (log : Option LogState) → opening_by p.home log ≡ opening_of default → IsOwn log → ThereBy p.home log d → WholeBy log p.entries p.held d → (IsAtEnd (record p { log = log }) rs pool → ⊥) → batch_at_end default Listed [] rs d ≡ true → ⊥
-  had_by None opening own there was had e =
-      let spent : IsSpent default pool = spent_of_disk default pool d whole (sym (end_without default rs d there) ∙ e) in
-      had (subst (λ h. IsSpent h pool) (sym home) spent)
-  had_by (Some l) opening own there was had e =
-      batch_had default l own.sound (ap (λ (o : Opening). o.epoch) opening) rs law pool d was.reads there whole was.read (λ some meets. had (some, meets)) (ap (λ (o : Opening). batch_at_end default o.kind o.name rs d) opening ∙ e)
+module _ (law : HasItsRoom) (homes : Homes) (rs : List Record) (pool : PoolState) (d : Disk) (whole : IsWholePool pool d) (p : PreparedState) where
+  had_by : (log : Option LogState) → homes.list ≡ home_for (opening_by p.home log) → IsOwn log → ThereBy p.home log d → WholeBy log p.entries p.held d → (IsAtEnd (record p { log = log }) rs pool → ⊥) → batch_at_end homes Listed [] rs d ≡ true → ⊥
+  had_by None is own there was had e =
+      had (spent_of_disk p.home pool d whole (ap (λ (h : Home). new_journal_meets_end h.pool d) (sym is) ∙ sym (end_without homes rs d there) ∙ e))
+  had_by (Some l) is own there was had e =
+      batch_had homes l own.sound (home_of homes l own is) rs law pool d was.reads there whole was.read (λ some meets. had (some, meets)) ((λ i. batch_at_end homes (own.kind i) (own.name i) rs d) ∙ e)
 
 list_had : (law : HasItsRoom) (s : JournalsState) (all : AreJournals s) (rs : List Record) (x y : Content) → Fits s x.now.disk → (IsAtEnd s.list rs s.pool → ⊥) → HadRoom s Listed [] rs x y
-list_had law s all rs x y fits had = λ was. had_by law s.home rs s.pool x.now.disk fits.pool s.list all.list.home s.list.log all.list.opening all.list.sound.log fits.list was.list had
+list_had law s all rs x y fits had = λ was. had_by law (homes_of s) rs s.pool x.now.disk fits.pool s.list s.list.log refl all.list.sound.log fits.list was.list had
 
 pub told_had : (law : HasItsRoom) (s : JournalsState) (all : AreJournals s) (rs : List Record) (a b : Option Content) → Tells (Arrives (IsLogStep (own_opening s.list))) a b → IfSome a (OnDisk (Fits s)) → (IsAtEnd s.list rs s.pool → ⊥)
     → Tells (HadRoom s Listed [] rs) a b
@@ -64,18 +66,17 @@ told_had law s all rs (Some x) (Some y) went fits had = list_had law s all rs x 
 
 -- ---- where the call stopped
 
-stops_by : (default : PoolId) (rs : List Record) (p : PreparedState) → p.home ≡ default → (x y : Content) → AllUnmarked x.now (moments_since x y)
-    → (log : Option LogState) → Arrives (IsLogStep (opening_by p.home log)) x y → opening_by p.home log ≡ opening_of default → IsOwn log → ThereBy p.home log x.now.disk → WholeBy log p.entries p.held x.now.disk → Stops (record p { log = log }) rs x y → batch_at_end default Listed [] rs y.now.disk ≡ true
-stops_by default rs p home x y unmarked None went opening own there was stops =
-    end_without default rs y.now.disk (ap (λ (c : Content). (journal_on c.now.disk Listed []).files) stops.0 ∙ there) ∙ ap (λ h. new_journal_meets_end h y.now.disk) (sym home) ∙ stops.1
-stops_by default rs p home x y unmarked (Some l) went opening own there was stops =
-    ap (λ (o : Opening). batch_at_end default o.kind o.name rs y.now.disk) (sym opening)
-    ∙ batch_ends default l own.sound (ap (λ (o : Opening). o.epoch) opening) rs x y was.reads went stops.stays there stops.room unmarked was.read stops.ends
+stops_by : (homes : Homes) (rs : List Record) (p : PreparedState) (x y : Content) → AllUnmarked x.now (moments_since x y) → (log : Option LogState) → homes.list ≡ home_for (opening_by p.home log) → Arrives (IsLogStep (opening_by p.home log)) x y
+    → IsOwn log → ThereBy p.home log x.now.disk → WholeBy log p.entries p.held x.now.disk → Stops (record p { log = log }) rs x y → batch_at_end homes Listed [] rs y.now.disk ≡ true
+stops_by homes rs p x y unmarked None is went own there was stops =
+    end_without homes rs y.now.disk (ap (λ (c : Content). (journal_on c.now.disk Listed []).files) stops.0 ∙ there) ∙ ap (λ (h : Home). new_journal_meets_end h.pool y.now.disk) is ∙ stops.1
+stops_by homes rs p x y unmarked (Some l) is went own there was stops =
+    sym (λ i. batch_at_end homes (own.kind i) (own.name i) rs y.now.disk) ∙ batch_ends homes l own.sound (home_of homes l own is) rs x y was.reads went stops.stays there stops.room unmarked was.read stops.ends
 
 stops_at_end : (s : JournalsState) (all : AreJournals s) (rs : List Record) (x y : Content) → Fits s x.now.disk → Arrives (IsLogStep (own_opening s.list)) x y → Stops s.list rs x y → StopsAtEnd s Listed [] rs x y
 stops_at_end s all rs x y fits went stops = record {
-  arrives = store_arrival (own_opening s.list) (own_epoch s all) x y went;
-  meets = λ unmarked was. stops_by s.home rs s.list all.list.home x y unmarked s.list.log went all.list.opening all.list.sound.log fits.list was.list stops;
+  arrives = store_arrival (own_opening s.list) x y went;
+  meets = λ unmarked was. stops_by (homes_of s) rs s.list x y unmarked s.list.log refl went all.list.sound.log fits.list was.list stops;
 }
 
 pub list_stops : (s : JournalsState) (all : AreJournals s) (rs : List Record) (f : LogError) (a b : Option Content) → f ≡ log.Spent → IfSome a (OnDisk (Fits s)) → Tells (GoesBy {X = Unit {0}} (IsLogStep (own_opening s.list)) (Err f)) a b
@@ -147,9 +148,13 @@ or_false : (b : Bool) → (b || false) ≡ b
 or_false true = refl
 or_false false = refl
 
-pub without_one : (x : List ℕ) (es : List ListEntry) → without_entries (x ∷ []) es ≡ without_entry x es
+without_one : (x : List ℕ) (es : List ListEntry) → without_entries (x ∷ []) es ≡ without_entry x es
 without_one x [] = refl
 without_one x (e ∷ es) = λ i. cond (not (or_false (same e.xid x) i)) (e ∷ without_one x es i) (without_one x es i)
+
+pub ends_one : (r : Result JournalsState Cause) (x : List ℕ) (xs : List (List ℕ)) (es : List ListEntry) → xs ≡ x ∷ [] → IfOk r (λ s. s.list.entries ≡ without_entries xs es) → IfOk r (λ s. s.list.entries ≡ without_entry x es)
+ends_one (Ok s) x xs es one h = h ∙ ap (λ ys. without_entries ys es) one ∙ without_one x es
+ends_one (Err e) x xs es one h = tt
 
 pub one_is_distinct : (x : List ℕ) (xs : List (List ℕ)) → xs ≡ x ∷ [] → IsDistinct same xs
 unfolding IsDistinct

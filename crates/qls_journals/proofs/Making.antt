@@ -30,22 +30,22 @@ use Rattle.qls_queue.specs.Faults.{QueueCauses}
 use Rattle.qls_queue.specs.Live.{LiveState, IsSound, QueueThere}
 use Rattle.qls_queue.specs.Moments.{BeginsWritten, is_exact_error}
 use Rattle.qls_queue.specs.Records.{opening_of}
-use Rattle.qls_queue.specs.Releasing.{BeginsClean, IsQueueClean}
+use Rattle.qls_queue.specs.Releasing.{BeginsClean, IsQueueWhole}
 use Rattle.qls_queue.specs.declared.fault.QueueError.{QueueError}
 use Rattle.qls_queue.specs.declared.fault.QueueError.TheVariants as queue
 use Rattle.qls_journals.specs.declared.cause.Cause.{Cause}
 use Rattle.qls_journals.specs.declared.cause.Cause.TheVariants.{Failed, Draw, Spent}
-use Rattle.qls_journals.specs.State.{JournalsState, queues_of, queue_held, IsKept, AreJournals, NamesJournal, Fits, IsWhole, IsListAlive}
+use Rattle.qls_journals.specs.State.{JournalsState, queues_of, queue_held, IsKept, IsReleased, AreReleased, AreJournals, AreQueuesAlive, NamesJournal, Fits, IsWhole, IsListAlive}
 use Rattle.qls_journals.specs.Answers.{is_exact as store_exact, StoreCauses}
 use Rattle.qls_journals.specs.Errors.{by_error}
-use Rattle.qls_journals.specs.Homes.{Homes, homes_of, with_home, SameHomes, TakesFromHome}
+use Rattle.qls_journals.specs.Homes.{Home, Homes, new_home, home_for, homes_of, with_home, SameHomes, TakesFromHome}
 use Rattle.qls_journals.specs.Ends.{NewQueueStops, HadNewQueue}
 use Rattle.qls_journals.specs.Moments.{IsStoreStep, Changes, LeavesDead, StaysWritten}
 use Rattle.qls_journals.specs.Places.{WouldStandAt}
 use Rattle.qls_journals.proofs.FitPools.{IsFitDisk, fit_disk, fit_pool, files_taken}
 use Rattle.qls_journals.proofs.Missing.{no_journal, spent_of_disk, no_file_of}
 use Rattle.qls_journals.proofs.Names.{held_of, AllBefore, AllBehind, Lacks, lacks_between, before_differs, behind_differs}
-use Rattle.qls_journals.proofs.Others.{store_arrival, store_passing, home_passing, queue_kept, queue_clean_kept, written_kept, other_name, other_list, named_kept, queue_named_by, ids_kept, list_kept, list_whole_kept, list_alive_kept, list_written_kept, FilesStayWritten}
+use Rattle.qls_journals.proofs.Others.{store_arrival, store_passing, home_passing, queue_kept, IsAlive, queue_whole_kept, queue_alive_kept, written_kept, other_name, other_list, named_kept, queue_named_by, ids_kept, list_kept, list_whole_kept, list_alive_kept, list_written_kept, FilesStayWritten}
 use Rattle.qls_journals.proofs.Resting.{writes_none}
 use Rattle.qls_journals.proofs.Placing.{all_insert, rises_insert, queues_insert, held_insert}
 
@@ -70,9 +70,11 @@ kept_made name home q legal m = record {
   sound = m.sound;
   log = m.log;
   name = subst (λ (p : QueueState). IsTrue (is_queue_name p.name)) (sym m.queue) legal;
-  epoch = ap (λ (o : Opening). o.epoch) (opening_made name home q m);
-  one = λ e. ap (λ (l : LogState). length l.files) m.new.log;
 }
+
+-- it has one file
+pub released_made : (name : List ℕ) (home : PoolId) (q : LiveState) → IsMade name home q → IsReleased q
+released_made name home q m = λ e. ap (λ (l : LogState). length l.files) m.new.log
 
 pub legal_opening : (name : List ℕ) (home : PoolId) → is_queue_name name ≡ true → (is_partition home.part ≡ true) × (is_kib home.kib ≡ true) → IsLegalOpening (opening_of name home)
 legal_opening name home legal within = record { part = within.0; kib = within.1; epoch = (omega arith, omega arith); name = legal }
@@ -128,7 +130,7 @@ module _ (s : JournalsState) (store : AreJournals s) (name : List ℕ) (home : P
   pub pools_made : (a b : Option Content) → Tells (Passes (IsLogStep o)) a b → Tells (Passes (TakesFromHome homes_made)) a b
   pools_made a b h =
       Tells-weaken (Passes (IsLogStep o)) (Passes (TakesFromHome homes_made)) a b h
-      (home_passing o homes_made (ap (λ b. cond b (Some home) ((homes_of s).queue name)) (same_self name)))
+      (home_passing o homes_made (ap (λ b. cond b (Some (new_home home)) ((homes_of s).queue name)) (same_self name)))
 
   -- the site has no file of it
   pub asked : (a : Option Content) → IfSome a (OnDisk (Fits s)) → IfSome a (OnDisk (λ d. files_on o d ≡ []))
@@ -171,6 +173,9 @@ module _ (s : JournalsState) (store : AreJournals s) (name : List ℕ) (home : P
       list = store.list;
     }
 
+    pub released_after : AreReleased s.queues → AreReleased (insert s.queues at q)
+    released_after h = all_insert IsReleased s.queues at q (released_made name home q m) h
+
     pub queues_after : queues_of after ≡ with_queue (new_queue name) (queues_of s)
     queues_after = sym (queues_insert s.queues at q before behind) ∙ ap (λ (p : QueueState). with_queue p (map held_of s.queues)) m.queue
 
@@ -180,13 +185,13 @@ module _ (s : JournalsState) (store : AreJournals s) (name : List ℕ) (home : P
         ∙ ap (λ k. cond (same k n) (Some q) (queue_held n s.queues)) (sym name_is)
 
     pub homes_after : SameHomes (homes_of after) homes_made
-    homes_after = record { default = refl; queue = λ n. ap home_of (found n) ∙ by n (same name n) }
+    homes_after = record { default = refl; queue = λ n. ap home_of (found n) ∙ by n (same name n); list = refl }
       where
-        home_of : Option LiveState → Option PoolId
-        home_of u = option_map (λ (u : LiveState). u.log.opening.home) u
+        home_of : Option LiveState → Option Home
+        home_of u = option_map (λ (u : LiveState). home_for u.log.opening) u
 
-        by : (n : List ℕ) (b : Bool) → home_of (cond b (Some q) (queue_held n s.queues)) ≡ cond b (Some home) ((homes_of s).queue n)
-        by n true = ap (λ (p : Opening). Some p.home) (opening_made name home q m)
+        by : (n : List ℕ) (b : Bool) → home_of (cond b (Some q) (queue_held n s.queues)) ≡ cond b (Some (new_home home)) ((homes_of s).queue n)
+        by n true = ap (λ (p : Opening). Some (home_for p)) (opening_made name home q m)
         by n false = refl
 
     still_named : (h : FileHeader) → NamesJournal s.queues h → NamesJournal (insert s.queues at q) h
@@ -214,13 +219,18 @@ module _ (s : JournalsState) (store : AreJournals s) (name : List ℕ) (home : P
         own = named_kept (insert s.queues at q) o (queue_named_by (insert s.queues at q) o refl q own_held) a b went (λ id f found used. still_named _ (fits.own id f found used));
       }
 
-      pub whole_after : IsQueueClean q b.now.disk → IsWhole s a.now.disk → IsWhole after b.now.disk
-      whole_after clean all = record {
+      pub whole_after : IsQueueWhole q b.now.disk → IsWhole s a.now.disk → IsWhole after b.now.disk
+      whole_after own all = record {
         queues =
-            all_insert (λ u. IsQueueClean u b.now.disk) s.queues at q clean
-            (all_three IsKept (λ u. same name u.queue.name ≡ false) (λ u. IsQueueClean u a.now.disk) (λ u. IsQueueClean u b.now.disk) (λ u kept other k. queue_clean_kept o u a b (other_name o u refl kept other) went k) s.queues store.kept others all.queues);
+            all_insert (λ u. IsQueueWhole u b.now.disk) s.queues at q own
+            (all_three IsKept (λ u. same name u.queue.name ≡ false) (λ u. IsQueueWhole u a.now.disk) (λ u. IsQueueWhole u b.now.disk) (λ u kept other k. queue_whole_kept o u a b (other_name o u refl kept other) went k) s.queues store.kept others all.queues);
         list = list_whole_kept o (other_list o refl) a b went s.list store.list.sound all.list;
       }
+
+      pub queues_alive_after : IsAlive q b.now.disk → AreQueuesAlive s.queues a.now.disk → AreQueuesAlive (insert s.queues at q) b.now.disk
+      queues_alive_after own alive =
+          all_insert (λ u. IsAlive u b.now.disk) s.queues at q own
+          (all_three IsKept (λ u. same name u.queue.name ≡ false) (λ u. IsAlive u a.now.disk) (λ u. IsAlive u b.now.disk) (λ u kept other k. queue_alive_kept o u a b (other_name o u refl kept other) went k) s.queues store.kept others alive)
 
     -- what making it did
     pub record MakingDone (a b : Option Content) : Type 0 where
@@ -242,10 +252,11 @@ module _ (s : JournalsState) (store : AreJournals s) (name : List ℕ) (home : P
         by None (Some y) fits went quiet there whole took clean = absurd went
         by (Some x) None fits went quiet there whole took clean = absurd went
         by (Some x) (Some y) fits went quiet there whole took clean = record {
-          arrives = store_arrival o refl x y went;
+          arrives = store_arrival o x y went;
           quiet = quiet;
           fits = fits_after x y went fits there whole done.limit (files_taken home done.within s.pool left q.log.files x y took);
-          whole = λ unmarked all. whole_after x y went (clean unmarked) all;
+          whole = λ unmarked all. whole_after x y went (clean unmarked).whole all;
+          alive = λ unmarked all alive. queues_alive_after x y went (clean unmarked).alive alive;
         }
 
     pub alive_made : (a b : Option Content) → Tells (Arrives (IsLogStep o)) a b → Carries (IsListAlive s) (IsListAlive after) a b
@@ -361,7 +372,7 @@ drawn_so false (Some a) (Some b) (Some x) (Some y) h = (h.0, h.1, ([], h.2 ∙ s
     none_short = omega arith
 
 pub store_passed : (name : List ℕ) (home : PoolId) (a b : Option Content) → Tells (Passes (IsLogStep (opening_of name home))) a b → Tells (Passes IsStoreStep) a b
-store_passed name home a b h = Tells-weaken (Passes (IsLogStep (opening_of name home))) (Passes IsStoreStep) a b h (λ x y k. store_passing (opening_of name home) refl x y k)
+store_passed name home a b h = Tells-weaken (Passes (IsLogStep (opening_of name home))) (Passes IsStoreStep) a b h (store_passing (opening_of name home))
 
 pub none_passed : (a : Option Content) → Tells (Passes IsStoreStep) a a
 none_passed None = tt
@@ -391,6 +402,9 @@ module _ (s t : JournalsState) (same_store : s ≡ t) (store : AreJournals t) (n
 
   pub handed_homes : SameHomes (homes_of handed) (with_home name (Some home) (homes_of t))
   handed_homes = subst (λ (x : JournalsState). SameHomes (homes_of x) (with_home name (Some home) (homes_of t))) handed_is (homes_after t store name home at w q left legal m)
+
+  pub handed_released : AreReleased t.queues → AreReleased handed.queues
+  handed_released h = subst (λ (x : JournalsState). AreReleased x.queues) handed_is (released_after t store name home at w q left legal m h)
 
   pub handed_changes : (a b : Option Content) → IfSome a (OnDisk (Fits t)) → MakingDone t store name home at w q left legal m a b → Tells (Changes t handed) a b
   handed_changes a b fits done = subst (λ (x : JournalsState). Tells (Changes t x) a b) handed_is (changes_made t store name home at w q left legal m a b fits done)

@@ -33,24 +33,24 @@ use Rattle.qls_log.proofs.SoundDisk.{logs_make_a_whole_disk}
 use Rattle.qls_log.proofs.SoundRun.{log_whole}
 use Rattle.qls_log.proofs.Splits.{is_of-own}
 use Rattle.qls_queue.specs.Live.{LiveState, QueueThere}
-use Rattle.qls_queue.specs.Releasing.{IsQueueClean}
+use Rattle.qls_queue.specs.Releasing.{IsQueueWhole}
 use Rattle.qls_prepared.specs.Lists.{PreparedState, IsOwn, ThereBy, WholeBy, AliveBy, rid_of_log, rid_of}
 use Rattle.qls_prepared.specs.Ends.{IsFitPool}
-use Rattle.qls_journals.specs.State.{JournalsState, queues_of as queues_held, IsKept, AreJournals, NamesList, NamesJournal, Fits, AreQueuesClean, IsWhole, IsClean, NonePast}
+use Rattle.qls_journals.specs.State.{JournalsState, queues_of as queues_held, IsKept, AreJournals, NamesList, NamesJournal, Fits, IsWhole, IsClean, NonePast}
 use Rattle.qls_journals.proofs.AllJournals.{all_weaken, all_joined, all_mapped, all_empty, named_files, held_has, held_name, log_journal, list_part, MayName, may_name, journal_of, all_journals}
 
 -- ---- the queues
 
--- a queue of the store, whose journal on the disk is clean
+-- a queue of the store, whose journal on the disk is whole
 pub record IsWell (d : Disk) (q : LiveState) : Type 0 where
   pub kept : IsKept q
   pub there : QueueThere q d
-  pub clean : IsQueueClean q d
+  pub whole : IsQueueWhole q d
 
-pub all_well : (s : JournalsState) (d : Disk) → AreJournals s → Fits s d → AreQueuesClean s.queues d → AllByRecursion (IsWell d) s.queues
-all_well s d are fits clean =
-    all_joined IsKept (λ q. QueueThere q d × IsQueueClean q d) (IsWell d) (λ q k h. record { kept = k; there = h.0; clean = h.1 }) s.queues are.kept
-    (all_joined (λ q. QueueThere q d) (λ q. IsQueueClean q d) _ (λ q t c. (t, c)) s.queues fits.queues clean)
+pub all_well : (s : JournalsState) (d : Disk) → AreJournals s → Fits s d → IsWhole s d → AllByRecursion (IsWell d) s.queues
+all_well s d are fits whole =
+    all_joined IsKept (λ q. QueueThere q d × IsQueueWhole q d) (IsWell d) (λ q k h. record { kept = k; there = h.0; whole = h.1 }) s.queues are.kept
+    (all_joined (λ q. QueueThere q d) (λ q. IsQueueWhole q d) _ (λ q t w. (t, w)) s.queues fits.queues whole.queues)
 
 -- ---- the list
 
@@ -103,7 +103,7 @@ alive_list d (Some l) h = (h, tt)
 
 pub none_dead : (s : JournalsState) (d : Disk) → AreJournals s → Fits s d → IsClean s d → NoneDead (full d)
 none_dead s d are fits clean =
-    of_journals (λ j. has_dead_oldest j ≡ false) s d are fits (alive_list d s.list.log clean.list.alive) (all_weaken (λ q. IsQueueClean q d) _ (λ q c. c.alive) s.queues clean.queues)
+    of_journals (λ j. has_dead_oldest j ≡ false) s d are fits (alive_list d s.list.log clean.list) clean.queues
 
 past_list : (d : Disk) (es : List ListEntry) (log : Option LogState) → IsWellList d es log → AllByRecursion (λ j. past_files j ≡ []) (list_part d log)
 past_list d es None h = tt
@@ -112,7 +112,7 @@ past_list d es (Some l) h = ((log_whole l d h.sound h.there h.undamaged).past, t
 pub none_past : (s : JournalsState) (d : Disk) → AreJournals s → Fits s d → IsWhole s d → NonePast d
 none_past s d are fits whole =
     of_journals (λ j. past_files j ≡ []) s d are fits (past_list d s.list.entries s.list.log (well_list s d are fits whole))
-    (all_weaken (IsWell d) _ (λ q w. (log_whole q.log d w.kept.log w.there w.clean.whole.undamaged).past) s.queues (all_well s d are fits whole.queues))
+    (all_weaken (IsWell d) _ (λ q w. (log_whole q.log d w.kept.log w.there w.whole.undamaged).past) s.queues (all_well s d are fits whole))
 
 -- ---- no damage
 
@@ -167,7 +167,7 @@ module _ (s : JournalsState) (d : Disk) (are : AreJournals s) (fits : Fits s d) 
   es = s.list.entries
 
   well : AllByRecursion (IsWell d) s.queues
-  well = all_well s d are fits whole.queues
+  well = all_well s d are fits whole
 
   well_log : IsWellList d es s.list.log
   well_log = well_list s d are fits whole
@@ -180,7 +180,7 @@ module _ (s : JournalsState) (d : Disk) (are : AreJournals s) (fits : Fits s d) 
         log = q.log;
         sound = w.kept.log;
         there = w.there;
-        undamaged = w.clean.whole.undamaged;
+        undamaged = w.whole.undamaged;
         own = is_of-own q.log.opening.kind q.log.opening.name (headed f) (n.kind ∙ sym w.kept.sound.kind) (sym (held_name (headed f).header.name s.queues q n.there) ∙ w.kept.sound.name);
       }
   own_file f (inr n) may = list_file d f es s.list.log well_log may n
@@ -206,7 +206,7 @@ module _ (s : JournalsState) (d : Disk) (are : AreJournals s) (fits : Fits s d) 
   all_queues [] h = refl
   all_queues (q ∷ qs) h =
       ap (λ k. map queue_of (cond (is_queue k) (journal_of d q ∷ filter (λ j. is_queue j.kind) (map (journal_of d) qs)) (filter (λ j. is_queue j.kind) (map (journal_of d) qs)))) h.0.kept.sound.kind
-      ∙ ap₂ (λ (r : QueueState) (rs : List QueueState). r ∷ rs) h.0.clean.whole.read.queue (all_queues qs h.1)
+      ∙ ap₂ (λ (r : QueueState) (rs : List QueueState). r ∷ rs) h.0.whole.read.queue (all_queues qs h.1)
 
   no_rid : (qs : List LiveState) → AllByRecursion (IsWell d) qs → rid_of_journals (map (journal_of d) qs) ≡ 0
   no_rid [] h = refl

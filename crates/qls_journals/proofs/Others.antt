@@ -23,7 +23,7 @@ use Rattle.qls_meaning.specs.Orderly.{IsNewFile, journal_on}
 use Rattle.qls_meaning.specs.Reading.{Read, epoch_end, journal_reading}
 use Rattle.qls_meaning.specs.Spent.{rid_of_reads}
 use Rattle.qls_pool.specs.Moments.{Chain, Passes, Arrives}
-use Rattle.qls_pool.specs.Next.{TakesNext}
+use Rattle.qls_pool.specs.Next.{IsEpochDue}
 use Rattle.qls_pool.specs.Files.{HeadedFile, IsLinked, LinkedThere, RestsThere, IsAtRest, IdsDiffer, is_among}
 use Rattle.qls_pool.specs.Discipline.{PoolFileSteps}
 use Rattle.qls_pool.proofs.Disks.{found_id}
@@ -39,58 +39,47 @@ use Rattle.qls_log.specs.Steps.{IsLogStep, IsOwnNext, TakesOwn, is_own}
 use Rattle.qls_log.specs.Unwritten.{IsWrittenTo, LeaveFiles, history_with}
 use Rattle.qls_log.proofs.Takes.{header_seen}
 use Rattle.qls_queue.specs.Live.{LiveState, QueueThere}
-use Rattle.qls_queue.specs.Releasing.{IsQueueWhole, IsQueueClean}
+use Rattle.qls_queue.specs.Releasing.{IsQueueWhole}
 use Rattle.qls_prepared.specs.Lists.{PreparedState, IsSound as IsSoundList, IsOwnLog, IsOwn, ThereBy, WholeBy, AliveBy, ListThere, IsListWhole}
 use Rattle.qls_prepared.specs.Moments.{WrittenBy}
 use Rattle.qls_journals.specs.State.{IsKept, queue_held, NamesJournal, AllNamed}
-use Rattle.qls_journals.specs.Homes.{Homes, home_by, IsOfHome, TakesFromHome}
-use Rattle.qls_journals.specs.Moments.{IsStoreStep, first_epochs}
+use Rattle.qls_journals.specs.Homes.{Homes, home_by, home_for, IsFromHome, TakesFrom, TakesFromHome}
+use Rattle.qls_journals.specs.Moments.{IsStoreStep}
 use Rattle.qls_journals.proofs.HeadersRead.{fields_read}
 
 -- ---- a log's step is one of a store
 
-next_of_own : (o : Opening) → o.epoch ≡ 1 → (m : Moment) (f : Option FileState) (g : FileState) → TakesOwn o m f g → TakesNext first_epochs m f g
-next_of_own o first m None g h = tt
-next_of_own o first m (Some f) g h = λ was now. let is = h was now in (
-  is.0,
-  record {
-    legal = is.1.legal;
-    epoch = is.1.epoch ∙ first;
-    number = is.1.number ∙ sym (λ i. newest_number (journal_on m.disk (is.1.kind i) (is.1.name i)).files + 1);
-  },
-)
+pub store_step_of : (o : Opening) (m n : Moment) → IsLogStep o m n → IsStoreStep m n
+store_step_of o m n h = record { answered = h.answered; differ = h.differ; pool = h.pool; headers = h.headers }
 
-pub store_step_of : (o : Opening) → o.epoch ≡ 1 → (m n : Moment) → IsLogStep o m n → IsStoreStep m n
-store_step_of o first m n h = record {
-  answered = h.answered;
-  differ = h.differ;
-  pool = h.pool;
-  next = all_weaken (λ g. TakesOwn o m (file_of g.id m.disk) g) (λ g. TakesNext first_epochs m (file_of g.id m.disk) g) (λ g k. next_of_own o first m (file_of g.id m.disk) g k) n.disk h.next;
-  headers = h.headers;
-}
+abbrev pub store_arrival : (o : Opening) (a b : Content) → Arrives (IsLogStep o) a b → Arrives IsStoreStep a b
+store_arrival o a b h = Arrives-weaken (IsLogStep o) IsStoreStep (store_step_of o) a b h
 
-abbrev pub store_arrival : (o : Opening) → o.epoch ≡ 1 → (a b : Content) → Arrives (IsLogStep o) a b → Arrives IsStoreStep a b
-store_arrival o first a b h = Arrives-weaken (IsLogStep o) IsStoreStep (store_step_of o first) a b h
+abbrev pub store_passing : (o : Opening) (a b : Content) → Passes (IsLogStep o) a b → Passes IsStoreStep a b
+store_passing o a b h = Passes-weaken (IsLogStep o) IsStoreStep (store_step_of o) a b h
 
-abbrev pub store_passing : (o : Opening) → o.epoch ≡ 1 → (a b : Content) → Passes (IsLogStep o) a b → Passes IsStoreStep a b
-store_passing o first a b h = Passes-weaken (IsLogStep o) IsStoreStep (store_step_of o first) a b h
+-- ---- files come into use from the home of the journal
 
--- ---- files come into use from the pool of the journal
+module _ (o : Opening) (homes : Homes) (home : home_by o.kind o.name homes ≡ Some (home_for o)) where
+  -- the next file of the log's journal is that of its home
+  from_own : (m : Moment) (g : FileState) (header : FileHeader) → IsOwnNext o m g header → IsFromHome homes m.disk g header
+  from_own m g header is = record {
+    legal = is.legal;
+    home = (λ i. home_by (is.kind i) (is.name i) homes) ∙ home ∙ (λ i. Some (record { pool = record { part = sym is.part i; kib = sym is.kib i }; epoch = sym is.epoch i }));
+    due = subst (λ (X : Type 0). X) (λ i. IsEpochDue (sym is.epoch i) (journal_on m.disk (sym is.kind i) (sym is.name i)).files) is.due;
+    number = is.number ∙ sym (λ i. newest_number (journal_on m.disk (is.kind i) (is.name i)).files + 1);
+  }
 
-home_of_own : (o : Opening) (homes : Homes) → home_by o.kind o.name homes ≡ Some o.home → (m : Moment) (f : Option FileState) (g : FileState) → TakesOwn o m f g → IsOfHome homes f g
-home_of_own o homes home m None g h = tt
-home_of_own o homes home m (Some f) g h = λ was now. let is = h was now in (
-  is.0,
-  is.1.legal,
-  (λ i. home_by (is.1.kind i) (is.1.name i) homes) ∙ home ∙ (λ i. Some (record { part = sym is.1.part i; kib = sym is.1.kib i })),
-)
+  home_of_own : (m : Moment) (f : Option FileState) (g : FileState) → TakesOwn o m f g → TakesFrom homes m.disk f g
+  home_of_own m None g h = tt
+  home_of_own m (Some f) g h = λ was now. let is = h was now in (is.0, from_own m g is.0 is.1)
 
-pub home_step_of : (o : Opening) (homes : Homes) → home_by o.kind o.name homes ≡ Some o.home → (m n : Moment) → IsLogStep o m n → TakesFromHome homes m n
-home_step_of o homes home m n h =
-    all_weaken (λ g. TakesOwn o m (file_of g.id m.disk) g) (λ g. IsOfHome homes (file_of g.id m.disk) g) (λ g k. home_of_own o homes home m (file_of g.id m.disk) g k) n.disk h.next
+  pub home_step_of : (m n : Moment) → IsLogStep o m n → TakesFromHome homes m n
+  home_step_of m n h =
+      all_weaken (λ g. TakesOwn o m (file_of g.id m.disk) g) (λ g. TakesFrom homes m.disk (file_of g.id m.disk) g) (λ g k. home_of_own m (file_of g.id m.disk) g k) n.disk h.next
 
-pub home_passing : (o : Opening) (homes : Homes) → home_by o.kind o.name homes ≡ Some o.home → (a b : Content) → Passes (IsLogStep o) a b → Passes (TakesFromHome homes) a b
-home_passing o homes home a b h = Passes-weaken (IsLogStep o) (TakesFromHome homes) (home_step_of o homes home) a b h
+  pub home_passing : (a b : Content) → Passes (IsLogStep o) a b → Passes (TakesFromHome homes) a b
+  home_passing a b h = Passes-weaken (IsLogStep o) (TakesFromHome homes) home_step_of a b h
 
 -- ---- other journals and their files
 
@@ -135,9 +124,6 @@ whole_kept q d e same h = record {
   read = record { reads = h.read.reads; read = read_kept q.log h.read.reads d e same h.read.read; queue = ap queue_of same ∙ h.read.queue; held = h.read.held };
   undamaged = undamaged_kept q.log d e same h.undamaged;
 }
-
-pub clean_kept : (q : LiveState) (d e : Disk) → journal_on e q.log.opening.kind q.log.opening.name ≡ journal_on d q.log.opening.kind q.log.opening.name → IsQueueClean q d → IsQueueClean q e
-clean_kept q d e same h = record { whole = whole_kept q d e same h.whole; alive = ap has_dead_oldest same ∙ h.alive }
 
 -- ---- another log stands
 
@@ -232,8 +218,15 @@ other_queue o q kind kept =
 pub queue_kept : (o : Opening) (q : LiveState) (a b : Content) → IsKept q → is_own o q.log.opening.kind q.log.opening.name ≡ false → Arrives (IsLogStep o) a b → IdsDiffer b.now.disk → QueueThere q a.now.disk → QueueThere q b.now.disk
 queue_kept o q a b kept other went differ there = log_kept o q.log kept.log other a b went differ kept.sound.flushed there
 
-pub queue_clean_kept : (o : Opening) (q : LiveState) (a b : Content) → is_own o q.log.opening.kind q.log.opening.name ≡ false → Arrives (IsLogStep o) a b → IsQueueClean q a.now.disk → IsQueueClean q b.now.disk
-queue_clean_kept o q a b other went clean = clean_kept q a.now.disk b.now.disk (journal_kept o a b went q.log.opening.kind q.log.opening.name other) clean
+pub queue_whole_kept : (o : Opening) (q : LiveState) (a b : Content) → is_own o q.log.opening.kind q.log.opening.name ≡ false → Arrives (IsLogStep o) a b → IsQueueWhole q a.now.disk → IsQueueWhole q b.now.disk
+queue_whole_kept o q a b other went whole = whole_kept q a.now.disk b.now.disk (journal_kept o a b went q.log.opening.kind q.log.opening.name other) whole
+
+-- the queue's oldest file isn't dead
+abbrev pub IsAlive : LiveState → Disk → Type 0
+IsAlive q d = has_dead_oldest (journal_on d q.log.opening.kind q.log.opening.name) ≡ false
+
+pub queue_alive_kept : (o : Opening) (q : LiveState) (a b : Content) → is_own o q.log.opening.kind q.log.opening.name ≡ false → Arrives (IsLogStep o) a b → IsAlive q a.now.disk → IsAlive q b.now.disk
+queue_alive_kept o q a b other went alive = ap has_dead_oldest (journal_kept o a b went q.log.opening.kind q.log.opening.name other) ∙ alive
 
 -- ---- the list behind a call on another journal
 

@@ -14,7 +14,6 @@ use Rattle.qls_blocks.specs.Batching.{length_of, block_length}
 use Rattle.qls_pool.specs.Files.{OnDisk, Carries}
 use Rattle.qls_pool.specs.Moments.{EndsIn, Passes, Arrives}
 use Rattle.qls_pool.specs.Pools.{PoolState}
-use Rattle.qls_log.specs.declared.opening.Opening.{Opening}
 use Rattle.qls_log.specs.Leaving.{NoneLeaves}
 use Rattle.qls_log.specs.Logs.{IsSound as IsSoundLog}
 use Rattle.qls_log.specs.Steps.{IsLogStep, KeepsRoom, MeetsEndWith}
@@ -22,21 +21,21 @@ use Rattle.qls_log.specs.Taking.{MeetsEnd}
 use Rattle.qls_queue.specs.Faults.{is_fault}
 use Rattle.qls_queue.specs.Live.{LiveState, IsSound, QueueThere}
 use Rattle.qls_queue.specs.Moments.{GoesBy}
-use Rattle.qls_queue.specs.Releasing.{IsQueueClean}
+use Rattle.qls_queue.specs.Releasing.{IsQueueWhole}
 use Rattle.qls_queue.specs.declared.fault.QueueError.{QueueError}
 use Rattle.qls_queue.specs.declared.fault.QueueError.TheVariants as queue
 use Rattle.qls_journals.specs.declared.cause.Cause.{Cause}
 use Rattle.qls_journals.specs.declared.cause.Cause.TheVariants as cause
 use Rattle.qls_journals.specs.Ends.{StopsAtEnd, HadRoom, batch_at_end}
 use Rattle.qls_journals.specs.Errors.{by_error}
-use Rattle.qls_journals.specs.Homes.{homes_of, SameHomes}
+use Rattle.qls_journals.specs.Homes.{home_by, home_for, homes_of, SameHomes}
 use Rattle.qls_journals.specs.Moments.{Changes, StaysWritten}
 use Rattle.qls_journals.specs.State.{JournalsState, queue_held, IsKept, AreJournals, Fits, IsListAlive}
 use Rattle.qls_journals.proofs.Ending.{HasItsRoom, fresh_of, batch_had, batch_ends}
 use Rattle.qls_journals.proofs.Names.{all_at, held_at}
 use Rattle.qls_journals.proofs.Others.{store_arrival}
 use Rattle.qls_journals.proofs.Resting.{told_none, alive_none, writes_none}
-use Rattle.qls_journals.proofs.Writing.{NextQueue}
+use Rattle.qls_journals.proofs.Writing.{NextQueue, home_is}
 
 -- ---- the queue at a place
 
@@ -65,8 +64,8 @@ if_placed s at q P p h = subst (λ o. IfSome o P) (sym p.place) h
 
 -- ---- the queue behind a call
 
-pub next_queue : (q r : LiveState) → IsKept q → r.log.opening ≡ q.log.opening → r.queue.name ≡ q.queue.name → r.ended ≡ false → IsSound r → IsSoundLog r.log → (r.queue.messages ≡ [] → length r.log.files ≡ 1) → NextQueue q r
-next_queue q r kept opening name unended sound log one = record {
+pub next_queue : (q r : LiveState) → IsKept q → r.log.opening ≡ q.log.opening → r.queue.name ≡ q.queue.name → r.ended ≡ false → IsSound r → IsSoundLog r.log → NextQueue q r
+next_queue q r kept opening name unended sound log = record {
   opening = opening;
   name = name;
   kept = record {
@@ -74,8 +73,6 @@ next_queue q r kept opening name unended sound log one = record {
     sound = sound;
     log = log;
     name = subst (λ n. IsTrue (is_queue_name n)) (sym name) kept.name;
-    epoch = ap (λ (o : Opening). o.epoch) opening ∙ kept.epoch;
-    one = one;
   };
 }
 
@@ -152,7 +149,11 @@ alive_refused s w a b same stays =
     subst (λ o. Carries (IsListAlive s) (IsListAlive w) a o) (sym stays) (subst (λ v. Carries (IsListAlive s) (IsListAlive v) a a) (sym same) (alive_none s a))
 
 pub same_homes : (w s : JournalsState) → w ≡ s → SameHomes (homes_of w) (homes_of s)
-same_homes w s same = record { default = ap (λ (v : JournalsState). v.home) same; queue = λ name. ap (λ (v : JournalsState). (homes_of v).queue name) same }
+same_homes w s same = record {
+  default = ap (λ (v : JournalsState). v.home) same;
+  queue = λ name. ap (λ (v : JournalsState). (homes_of v).queue name) same;
+  list = ap (λ (v : JournalsState). (homes_of v).list) same;
+}
 
 pub writes_refused : {Y : Type 0} (s : JournalsState) (answer : Y) (journals : Y → JournalsState) (a b : Option Content) → journals answer ≡ s → b ≡ a → Tells (StaysWritten {X = Y} {E = Cause} (Ok answer) journals s) a b
 writes_refused {Y} s answer journals a b same stays =
@@ -165,13 +166,16 @@ module _ (s : JournalsState) (at : ℕ) (q : LiveState) (p : Placed s at q) (rs 
   kept = placed_kept s at q p
 
   -- the end of the queue's journal is that of its log
-  own_end : (d : Disk) → batch_at_end s.home Queue q.queue.name rs d ≡ batch_at_end s.home q.log.opening.kind q.log.opening.name rs d
-  own_end d = λ i. batch_at_end s.home (sym kept.sound.kind i) (kept.sound.name i) rs d
+  own_end : (d : Disk) → batch_at_end (homes_of s) Queue q.queue.name rs d ≡ batch_at_end (homes_of s) q.log.opening.kind q.log.opening.name rs d
+  own_end d = λ i. batch_at_end (homes_of s) (sym kept.sound.kind i) (kept.sound.name i) rs d
+
+  own_home : home_by q.log.opening.kind q.log.opening.name (homes_of s) ≡ Some (home_for q.log.opening)
+  own_home = home_is s p.all at q p.place p.held
 
   had_room : HasItsRoom → (0 < length (fresh_of q.log rs) → MeetsEnd q.log.opening q.log.newest 1 s.pool → ⊥) → (a b : Content) → Fits s a.now.disk → HadRoom s Queue q.queue.name rs a b
   had_room law had a b fits whole e =
-      let read = (all_at (λ u. IsQueueClean u a.now.disk) s.queues at q whole.queues p.place).whole.read in
-      batch_had s.home q.log kept.log kept.epoch rs law s.pool a.now.disk read.reads (all_at (λ u. QueueThere u a.now.disk) s.queues at q fits.queues p.place) fits.pool read.read had (sym (own_end a.now.disk) ∙ e)
+      let read = (all_at (λ u. IsQueueWhole u a.now.disk) s.queues at q whole.queues p.place).read in
+      batch_had (homes_of s) q.log kept.log own_home rs law s.pool a.now.disk read.reads (all_at (λ u. QueueThere u a.now.disk) s.queues at q fits.queues p.place) fits.pool read.read had (sym (own_end a.now.disk) ∙ e)
 
   pub told_had : HasItsRoom → (0 < length (fresh_of q.log rs) → MeetsEnd q.log.opening q.log.newest 1 s.pool → ⊥) → (a b : Option Content) → IfSome a (OnDisk (Fits s)) → Tells (Arrives (IsLogStep q.log.opening)) a b → Tells (HadRoom s Queue q.queue.name rs) a b
   told_had law had None None fits went = tt
@@ -181,10 +185,10 @@ module _ (s : JournalsState) (at : ℕ) (q : LiveState) (p : Placed s at q) (rs 
 
   stops : (a b : Content) → Fits s a.now.disk → Arrives (IsLogStep q.log.opening) a b → Passes NoneLeaves a b → KeepsRoom q.log a b → MeetsEndWith q.log (block_length (length_of rs)) b.now.disk → StopsAtEnd s Queue q.queue.name rs a b
   stops a b fits went stays keeps meets = record {
-    arrives = store_arrival q.log.opening kept.epoch a b went;
+    arrives = store_arrival q.log.opening a b went;
     meets = λ unmarked whole.
-        let read = (all_at (λ u. IsQueueClean u a.now.disk) s.queues at q whole.queues p.place).whole.read in
-        own_end b.now.disk ∙ batch_ends s.home q.log kept.log kept.epoch rs a b read.reads went stays (all_at (λ u. QueueThere u a.now.disk) s.queues at q fits.queues p.place) keeps unmarked read.read meets;
+        let read = (all_at (λ u. IsQueueWhole u a.now.disk) s.queues at q whole.queues p.place).read in
+        own_end b.now.disk ∙ batch_ends (homes_of s) q.log kept.log own_home rs a b read.reads went stays (all_at (λ u. QueueThere u a.now.disk) s.queues at q fits.queues p.place) keeps unmarked read.read meets;
   }
 
   pub told_stops : (a b : Option Content) → IfSome a (OnDisk (Fits s)) → Tells (Arrives (IsLogStep q.log.opening)) a b → Tells (Passes NoneLeaves) a b → Tells (KeepsRoom q.log) a b

@@ -32,4 +32,4 @@ pub reads_were_written : LogsReadWritten → (areas : List FreeArea) (h : Histor
 reads_were_written law areas h s are fits whole written =
     of_journals (λ j. EachPlace (SpellsWritten areas h) true (epochs j.files)) s (now h).disk are fits
     (list_written law areas h s s.list.log (well_list s (now h).disk are fits whole) written.list)
-    (all_joined (IsWell (now h).disk) (λ q. IsWrittenTo areas h q.log) _ (λ q w k. law areas h q.log w.clean.whole.read.reads w.kept.log w.there w.clean.whole.read.read k) s.queues (all_well s (now h).disk are fits whole.queues) written.queues)
+    (all_joined (IsWell (now h).disk) (λ q. IsWrittenTo areas h q.log) _ (λ q w k. law areas h q.log w.whole.read.reads w.kept.log w.there w.whole.read.read k) s.queues (all_well s (now h).disk are fits whole) written.queues)

@@ -22,6 +22,7 @@ changes_none s a fits = record {
   quiet = λ q. q;
   fits = fits;
   whole = λ marked whole. whole;
+  alive = λ marked whole alive. alive;
 }
 
 pub told_none : (s : JournalsState) (a : Option Content) → IfSome a (OnDisk (Fits s)) → Tells (Changes s s) a a

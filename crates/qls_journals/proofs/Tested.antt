@@ -16,7 +16,7 @@ use Rattle.qls_log.specs.Standing.{files_on}
 use Rattle.qls_prepared.specs.Lists.{opening_of}
 use Rattle.qls_queue.specs.Answers.{is_pending}
 use Rattle.qls_queue.specs.Live.{LiveState}
-use Rattle.qls_journals.specs.State.{JournalsState, queues_of, Fits}
+use Rattle.qls_journals.specs.State.{JournalsState, queues_of, IsReleased, AreReleased, Fits}
 use Rattle.qls_journals.specs.Deciding.{NonePending}
 use Rattle.qls_journals.proofs.FitPools.{IsFitDisk, fit_pool}
 
@@ -42,6 +42,13 @@ nothing_there home pool d whole empty = record {
 pub nothing_fits : (home : PoolId) (pool : PoolState) (a : Option Content) → IfSome a (OnDisk (IsWholePool pool)) → IfSome a (OnDisk (λ d. d ≡ [])) → IfSome a (OnDisk (Fits (nothing home pool)))
 nothing_fits home pool None whole empty = tt
 nothing_fits home pool (Some a) whole empty = nothing_there home pool a.now.disk whole empty
+
+-- ---- the queue at a place
+
+pub released_at : (qs : List LiveState) (at : ℕ) → AreReleased qs → IfSome (slice_get qs at) IsReleased
+released_at [] at h = tt
+released_at (q ∷ qs) zero h = h.0
+released_at (q ∷ qs) (suc at) h = released_at qs at h.1
 
 -- ---- the list's first entry
 

@@ -4,14 +4,13 @@ use Rattle.std.proofs.Math.ListN.{set}
 use Rattle.std.specs.List.{AllByRecursion, slice_get}
 use Rattle.qls_model.specs.Bytes.{same, comes_before}
 use Rattle.qls_model.specs.Machine.{change_queue}
-use Rattle.qls_model.specs.declared.machine.PoolId.{PoolId}
 use Rattle.qls_model.specs.declared.machine.QueueState.{QueueState}
 use Rattle.qls_model.proofs.XidKeys.{same_true, same_self}
 use Rattle.qls_record.specs.Record.{Record}
 use Rattle.qls_site.specs.Disk.{IsQuiet}
 use Rattle.qls_site.specs.Content.{Moment, Content, Tells, moments_since}
 use Rattle.qls_filehdr.specs.declared.FileHeader.{FileHeader}
-use Rattle.qls_meaning.specs.History.{History, FreeArea, now}
+use Rattle.qls_meaning.specs.History.{History, FreeArea, AllUnmarked, now}
 use Rattle.qls_pool.specs.Pools.{PoolState}
 use Rattle.qls_pool.specs.Files.{IsWholePool, OnDisk, Carries}
 use Rattle.qls_pool.specs.Moments.{Passes, Arrives}
@@ -23,15 +22,15 @@ use Rattle.qls_log.specs.Unwritten.{IsWrittenTo, history_with}
 use Rattle.qls_queue.specs.Live.{LiveState, QueueThere}
 use Rattle.qls_queue.specs.declared.fault.QueueError.{QueueError}
 use Rattle.qls_queue.specs.Moments.{ArrivesOr, GoesBy, is_exact, LeavesDead as QueueLeavesDead, StaysWritten as QueueStaysWritten}
-use Rattle.qls_queue.specs.Releasing.{HasWrittenAndReleased, BecomesClean, IsQueueClean}
+use Rattle.qls_queue.specs.Releasing.{HasWrittenAndReleased, BecomesClean, IsQueueWhole, IsQueueClean}
 use Rattle.qls_site.proofs.Told.{Tells-weaken}
 use Rattle.qls_journals.specs.declared.cause.Cause.{Cause}
-use Rattle.qls_journals.specs.State.{JournalsState, queues_of, queue_held, IsKept, AreJournals, IsListAlive, NamesRise, names_of, NamesQueue, NamesJournal, Fits, IsWhole}
-use Rattle.qls_journals.specs.Homes.{homes_of, SameHomes, home_by, TakesFromHome}
+use Rattle.qls_journals.specs.State.{JournalsState, queues_of, queue_held, IsKept, IsReleased, AreReleased, AreJournals, AreQueuesAlive, IsListAlive, NamesRise, names_of, NamesQueue, NamesJournal, Fits, IsWhole}
+use Rattle.qls_journals.specs.Homes.{Home, home_for, homes_of, SameHomes, home_by, TakesFromHome}
 use Rattle.qls_journals.specs.Moments.{IsStoreStep, Changes, LeavesDead, StaysWritten, AreWritten}
 use Rattle.qls_journals.proofs.FitPools.{IsFitDisk, fit_disk, fit_pool, released_fits}
 use Rattle.qls_journals.proofs.Names.{before_differs, behind_differs, all_at, held_of}
-use Rattle.qls_journals.proofs.Others.{FilesStayWritten, store_arrival, store_passing, home_passing, queue_kept, queue_clean_kept, list_kept, list_whole_kept, list_alive_kept, list_written_kept, written_kept, other_name, other_list, named_kept, queue_named_by, ids_kept}
+use Rattle.qls_journals.proofs.Others.{FilesStayWritten, store_arrival, store_passing, home_passing, queue_kept, IsAlive, queue_whole_kept, queue_alive_kept, list_kept, list_whole_kept, list_alive_kept, list_written_kept, written_kept, other_name, other_list, named_kept, queue_named_by, ids_kept}
 
 -- ---- the queues, in order of their names, with one changed
 
@@ -156,17 +155,17 @@ module _ (s : JournalsState) (all : AreJournals s) (at : ℕ) (q : LiveState) (p
   -- ---- whatever it answered
 
   pub journals_pass : {X : Type 0} (v : Result X QueueError) (a b : Option Content) → Tells (GoesBy (IsLogStep o) v) a b → Tells (Passes IsStoreStep) a b
-  journals_pass v a b h = Tells-weaken (Passes (IsLogStep o)) (Passes IsStoreStep) a b (passes_of (IsLogStep o) v a b h) (store_passing o kept_queue.epoch)
+  journals_pass v a b h = Tells-weaken (Passes (IsLogStep o)) (Passes IsStoreStep) a b (passes_of (IsLogStep o) v a b h) (store_passing o)
 
-  home_is : home_by o.kind o.name (homes_of s) ≡ Some o.home
+  pub home_is : home_by o.kind o.name (homes_of s) ≡ Some (home_for o)
   home_is =
-      (λ i. home_by (kept_queue.sound.kind i) (sym kept_queue.sound.name i) (homes_of s)) ∙ ap (option_map (λ (u : LiveState). u.log.opening.home)) held
+      (λ i. home_by (kept_queue.sound.kind i) (sym kept_queue.sound.name i) (homes_of s)) ∙ ap (option_map (λ (u : LiveState). home_for u.log.opening)) held
 
   pub pools_pass : {X : Type 0} (v : Result X QueueError) (a b : Option Content) → Tells (GoesBy (IsLogStep o) v) a b → Tells (Passes (TakesFromHome (homes_of s))) a b
   pools_pass v a b h = Tells-weaken (Passes (IsLogStep o)) (Passes (TakesFromHome (homes_of s))) a b (passes_of (IsLogStep o) v a b h) (home_passing o (homes_of s) home_is)
 
   pub leaves_so : (a b : Option Content) → Tells (QueueLeavesDead q) a b → Tells (LeavesDead s) a b
-  leaves_so a b h = Tells-weaken (QueueLeavesDead q) (LeavesDead s) a b h (λ x y k quiet unmarked whole. k quiet unmarked (all_at (λ u. IsQueueClean u x.now.disk) s.queues at q whole.queues place).whole)
+  leaves_so a b h = Tells-weaken (QueueLeavesDead q) (LeavesDead s) a b h (λ x y k quiet unmarked whole. k quiet unmarked (all_at (λ u. IsQueueWhole u x.now.disk) s.queues at q whole.queues place))
 
   pub writes_failed : {X Y : Type 0} (v : Result X QueueError) (r : LiveState) (e : Cause) (after : Y → JournalsState) (a b : Option Content) → Tells (QueueStaysWritten v q r) a b → Tells (StaysWritten {X = Y} {E = Cause} (Err e) after s) a b
   writes_failed {X} {Y} v r e after a b h =
@@ -189,17 +188,20 @@ module _ (s : JournalsState) (all : AreJournals s) (at : ℕ) (q : LiveState) (p
     pub queues_after : (f : QueueState → QueueState) → r.queue ≡ f q.queue → queues_of after ≡ change_queue q.queue.name f (queues_of s)
     queues_after f is = queues_set f s.queues at q r all.rising place is
 
+    pub released_after : IsReleased r → AreReleased s.queues → AreReleased (set s.queues at r)
+    released_after one h = all_set IsReleased IsReleased s.queues at q r all.rising place (λ u other k. k) one h
+
     found : (n : List ℕ) → queue_held n (set s.queues at r) ≡ cond (same q.queue.name n) (Some r) (queue_held n s.queues)
     found n = held_set n s.queues at q r all.rising place next.name
 
     pub homes_kept : SameHomes (homes_of after) (homes_of s)
-    homes_kept = record { default = refl; queue = λ n. ap home_of (found n) ∙ by n (same q.queue.name n) refl }
+    homes_kept = record { default = refl; queue = λ n. ap home_of (found n) ∙ by n (same q.queue.name n) refl; list = refl }
       where
-        home_of : Option LiveState → Option PoolId
-        home_of u = option_map (λ (u : LiveState). u.log.opening.home) u
+        home_of : Option LiveState → Option Home
+        home_of u = option_map (λ (u : LiveState). home_for u.log.opening) u
 
         by : (n : List ℕ) (b : Bool) → same q.queue.name n ≡ b → home_of (cond b (Some r) (queue_held n s.queues)) ≡ home_of (queue_held n s.queues)
-        by n true k = ap (λ (p : Opening). Some p.home) next.opening ∙ ap home_of (sym held ∙ ap (λ m. queue_held m s.queues) (same_true q.queue.name n k))
+        by n true k = ap (λ (p : Opening). Some (home_for p)) next.opening ∙ ap home_of (sym held ∙ ap (λ m. queue_held m s.queues) (same_true q.queue.name n k))
         by n false k = refl
 
     still_queue : (h : FileHeader) → NamesQueue s.queues h → NamesQueue (set s.queues at r) h
@@ -231,14 +233,20 @@ module _ (s : JournalsState) (all : AreJournals s) (at : ℕ) (q : LiveState) (p
         own = named_kept (set s.queues at r) o (queue_named_by (set s.queues at r) o kept_queue.sound.kind r own_held) a b went (λ id f found used. still_named _ (fits.own id f found used));
       }
 
-      pub whole_after : IsQueueClean r b.now.disk → IsWhole s a.now.disk → IsWhole after b.now.disk
-      whole_after clean whole = record {
+      pub whole_after : IsQueueWhole r b.now.disk → IsWhole s a.now.disk → IsWhole after b.now.disk
+      whole_after own whole = record {
         queues =
-            all_set (λ u. IsKept u × IsQueueClean u a.now.disk) (λ u. IsQueueClean u b.now.disk) s.queues at q r all.rising place
-            (λ u other k. queue_clean_kept o u a b (other_name o u kept_queue.sound.kind k.0 (own_other u other)) went k.1) clean
-            (all_both IsKept (λ u. IsQueueClean u a.now.disk) s.queues all.kept whole.queues);
+            all_set (λ u. IsKept u × IsQueueWhole u a.now.disk) (λ u. IsQueueWhole u b.now.disk) s.queues at q r all.rising place
+            (λ u other k. queue_whole_kept o u a b (other_name o u kept_queue.sound.kind k.0 (own_other u other)) went k.1) own
+            (all_both IsKept (λ u. IsQueueWhole u a.now.disk) s.queues all.kept whole.queues);
         list = list_whole_kept o (other_list o kept_queue.sound.kind) a b went s.list all.list.sound whole.list;
       }
+
+      pub queues_alive_after : IsAlive r b.now.disk → AreQueuesAlive s.queues a.now.disk → AreQueuesAlive (set s.queues at r) b.now.disk
+      queues_alive_after own alive =
+          all_set (λ u. IsKept u × IsAlive u a.now.disk) (λ u. IsAlive u b.now.disk) s.queues at q r all.rising place
+          (λ u other k. queue_alive_kept o u a b (other_name o u kept_queue.sound.kind k.0 (own_other u other)) went k.1) own
+          (all_both IsKept (λ u. IsAlive u a.now.disk) s.queues all.kept alive)
 
       pub alive_after : IsListAlive s a.now.disk → IsListAlive after b.now.disk
       alive_after h = list_alive_kept o (other_list o kept_queue.sound.kind) a b went s.list all.list.sound h
@@ -272,14 +280,18 @@ module _ (s : JournalsState) (all : AreJournals s) (at : ℕ) (q : LiveState) (p
     pub changes_done : (rs : List Record) (draws draws_now : Option (List ℕ)) (a b : Option Content) → IfSome a (OnDisk (Fits s)) → CallDone rs q r s.pool left draws draws_now a b → Tells (Changes s after) a b
     changes_done rs draws draws_now a b fits done = by a b fits done.went done.quiet done.there done.whole done.written done.clean
       where
+        now_clean : (x y : Content) → BecomesClean q r x y → AllUnmarked x.now (moments_since x y) → IsWhole s x.now.disk → IsQueueClean r y.now.disk
+        now_clean x y clean unmarked was = clean.clean unmarked (all_at (λ u. IsQueueWhole u x.now.disk) s.queues at q was.queues place)
+
         by : (a b : Option Content) → IfSome a (OnDisk (Fits s)) → Tells (Arrives (IsLogStep o)) a b → Carries IsQuiet IsQuiet a b → IfSome b (OnDisk (QueueThere r)) → IfSome b (OnDisk (IsWholePool left))
             → HasWrittenAndReleased rs q r s.pool left draws draws_now a b → Tells (BecomesClean q r) a b → Tells (Changes s after) a b
         by None None fits went quiet there whole written clean = tt
         by None (Some y) fits went quiet there whole written clean = absurd went
         by (Some x) None fits went quiet there whole written clean = absurd went
         by (Some x) (Some y) fits went quiet there whole written clean = record {
-          arrives = store_arrival o kept_queue.epoch x y went;
+          arrives = store_arrival o x y went;
           quiet = quiet;
           fits = fits_after x y went fits there whole done.limit (released_fits rs q r s.pool left draws draws_now x y kept_queue.log written);
-          whole = λ unmarked was. whole_after x y went (clean.clean unmarked (all_at (λ u. IsQueueClean u x.now.disk) s.queues at q was.queues place).whole) was;
+          whole = λ unmarked was. whole_after x y went (now_clean x y clean unmarked was).whole was;
+          alive = λ unmarked was alive. queues_alive_after x y went (now_clean x y clean unmarked was).alive alive;
         }

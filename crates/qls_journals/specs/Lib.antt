@@ -6,3 +6,6 @@ pub mod Ends
 pub mod Answers
 pub mod Errors
 pub mod Deciding
+pub mod Opening
+pub mod Releasing
+pub mod Opened

@@ -9,13 +9,14 @@ use Rattle.qls_site.specs.Disk.{Disk, FileState, file_of, full, full_file}
 use Rattle.qls_filehdr.specs.declared.JournalKind.TheVariants as journal
 use Rattle.qls_filehdr.specs.declared.FileHeader.{FileHeader}
 use Rattle.qls_meaning.specs.Journals.{is_in_use, headed, journals_of}
-use Rattle.qls_meaning.specs.Dead.{past_files}
+use Rattle.qls_meaning.specs.Dead.{has_dead_oldest, past_files}
+use Rattle.qls_meaning.specs.Orderly.{journal_on}
 use Rattle.qls_pool.specs.Pools.{PoolState}
 use Rattle.qls_pool.specs.Files.{IsWholePool}
 use Rattle.qls_log.specs.Logs.{IsSound as IsSoundLog}
 use Rattle.qls_queue.specs.Live.{LiveState, IsSound as IsSoundQueue, QueueThere}
-use Rattle.qls_queue.specs.Releasing.{IsQueueClean}
-use Rattle.qls_prepared.specs.Lists.{PreparedState, opening_of, opening_by, IsSound as IsSoundList, ListThere, IsListWhole, IsListClean, AliveBy}
+use Rattle.qls_queue.specs.Releasing.{IsQueueWhole}
+use Rattle.qls_prepared.specs.Lists.{PreparedState, IsSound as IsSoundList, ListThere, IsListWhole, AliveBy}
 use Rattle.qls_prepared.specs.Ends.{IsFitPool}
 
 -- the default pool, to which the list's files belong, the pools of the site, the queues by name, and the list
@@ -33,21 +34,18 @@ queue_held name qs = find (λ q. same q.queue.name name) qs
 
 -- ---- what holds of all open journals
 
--- a queue of a legal name that was made in this opening; without a message it has one file
+-- a queue of a legal name
 pub record IsKept (q : LiveState) : Type 0 where
   pub unended : q.ended ≡ false
   pub sound : IsSoundQueue q
   pub log : IsSoundLog q.log
   pub name : IsTrue (is_queue_name q.queue.name)
-  pub epoch : q.log.opening.epoch ≡ 1
-  pub one : q.queue.messages ≡ [] → length q.log.files ≡ 1
 
--- the list's files belong to the default pool
+-- the first file of a list that has none is taken from the default pool
 pub record IsKeptList (default : PoolId) (p : PreparedState) : Type 0 where
   pub unended : p.ended ≡ false
   pub sound : IsSoundList p
   pub home : p.home ≡ default
-  pub opening : opening_by p.home p.log ≡ opening_of default
 
 -- each name comes before all that follow
 abbrev pub NamesRise : List (List ℕ) → Type 0
@@ -62,6 +60,13 @@ pub record AreJournals (s : JournalsState) : Type 0 where
   pub kept : AllByRecursion IsKept s.queues
   pub rising : NamesRise (names_of s.queues)
   pub list : IsKeptList s.home s.list
+
+-- a queue without a message has one file: its dead files went back
+abbrev pub IsReleased : LiveState → Type 0
+IsReleased q = q.queue.messages ≡ [] → length q.log.files ≡ 1
+
+abbrev pub AreReleased : List LiveState → Type 0
+AreReleased qs = AllByRecursion IsReleased qs
 
 -- ---- on a disk
 
@@ -94,19 +99,20 @@ pub record Fits (s : JournalsState) (d : Disk) : Type 0 where
   pub list : ListThere s.list d
   pub own : AllNamed s.queues d
 
--- each queue's journal says the queue, breaks no damage rule, and has no dead oldest file
-abbrev pub AreQueuesClean : List LiveState → Disk → Type 0
-AreQueuesClean qs d = AllByRecursion (λ q. IsQueueClean q d) qs
-
--- and the list's journal says its entries and breaks no damage rule
+-- each queue's journal says the queue, and the list's journal its entries; none breaks a damage rule
 pub record IsWhole (s : JournalsState) (d : Disk) : Type 0 where
-  pub queues : AreQueuesClean s.queues d
+  pub queues : AllByRecursion (λ q. IsQueueWhole q d) s.queues
   pub list : IsListWhole s.list d
 
--- and has no dead oldest file
+-- no queue's oldest file is dead
+abbrev pub AreQueuesAlive : List LiveState → Disk → Type 0
+AreQueuesAlive qs d = AllByRecursion (λ q. has_dead_oldest (journal_on d q.log.opening.kind q.log.opening.name) ≡ false) qs
+
+-- nor is the list's
 pub record IsClean (s : JournalsState) (d : Disk) : Type 0 where
-  pub queues : AreQueuesClean s.queues d
-  pub list : IsListClean s.list d
+  pub whole : IsWhole s d
+  pub queues : AreQueuesAlive s.queues d
+  pub list : AliveBy s.list.log d
 
 -- the list's oldest file isn't dead
 abbrev pub IsListAlive : JournalsState → Disk → Type 0

@@ -1,6 +1,10 @@
 // The open journals of a store.
 ghost use Rattle.std.specs.Prelude.{◌≡◌, ◌⊎◌, ◌≤◌, ◌<◌, ◌+◌, ◌-◌, ◌^◌, List, ℕ, [], ◌∷◌, None, Some, Ok, Err, IfOk, IfErr, IfSome, IsTrue, is_err, length, slice_get, option_copied, not, true, false};
-ghost use Rattle.std.specs.List.{AllByRecursion};
+ghost use Rattle.std.specs.List.{AllByRecursion, IsDistinct};
+ghost use Rattle.std.specs.List.Sorted.{IsStrictlySortedBy};
+ghost use Rattle.std.specs.Ordering.{nat_cmp};
+ghost use Rattle.std.specs.Cmp.Lexicographic.{slice_cmp};
+ghost use Rattle.qls_model.specs.Bytes.{same, is_listed};
 ghost use Rattle.qls_model.specs.Limits.{is_kib, is_partition, is_queue_name};
 ghost use Rattle.qls_model.specs.Messages.{with_message};
 ghost use Rattle.qls_model.specs.Machine.{change_queue, is_empty, put_message, taken, with_queue, without_queue};
@@ -11,10 +15,11 @@ ghost use Rattle.qls_meaning.specs.Replay.{decision};
 ghost use Rattle.qls_pool.specs.Files.{OnDisk, Carries};
 ghost use Rattle.qls_pool.specs.Moments.{EndsIn, Passes};
 ghost use Rattle.qls_pool.specs.Serials.{DrawsTaken, TakesNone};
+ghost use Rattle.qls_queue.specs.Answers.{is_pending};
 ghost use Rattle.qls_queue.specs.Records.{enqueue_of, dequeue_of, end_records, ended_by, IsXid};
 ghost use Rattle.qls_prepared.specs.Lists.{rid_of, MayEnd};
-ghost use Rattle.qls_prepared.specs.Records.{prepare_records, one_phase_records, decision_of, end_of};
-ghost use Rattle.qls_journals.specs.State.{queues_of, AreJournals, Fits, IsWhole, IsClean, IsListAlive};
+ghost use Rattle.qls_prepared.specs.Records.{prepare_records, one_phase_records, decision_of, end_of, end_records as list_ends, without_entries};
+ghost use Rattle.qls_journals.specs.State.{queues_of, AreJournals, AreReleased, IsReleased, Fits, IsWhole, IsClean, IsListAlive};
 ghost use Rattle.qls_journals.specs.Places.{IsPlace, StandsAt, WouldStandAt};
 ghost use Rattle.qls_journals.specs.Homes.{Homes, homes_of, with_home, SameHomes, TakesFromHome};
 ghost use Rattle.qls_journals.specs.Moments.{IsStoreStep, Changes, BecomesClean, LeavesDead, StaysWritten};
@@ -40,12 +45,12 @@ use std::marker::Model;
 /// the call's moments.
 #[derive(Drop)]
 pub struct Journals {
-    alloc: Global,
-    home: PoolId,
-    pool: Pool,
+    pub(crate) alloc: Global,
+    pub(crate) home: PoolId,
+    pub(crate) pool: Pool,
     /// In order of their names.
-    queues: Vec<LiveQueue>,
-    list: PreparedList,
+    pub(crate) queues: Vec<LiveQueue>,
+    pub(crate) list: PreparedList,
 }
 
 impl Model for Journals {
@@ -105,6 +110,14 @@ impl Journals {
         self.queues.len()
     }
 
+    /// The name of the queue at a place by name, counted from 0.
+    pub fn name_at(&self, at: usize) -> &Name
+        requires place { at < length self.now.queues }
+        ensures exact { IfSome (slice_get self.now.queues at) (λ q. result.now ≡ q.queue.name) }
+    {
+        self.queues[at].name()
+    }
+
     /// A copy of the queue at a place by name, counted from 0: its name, its last number and its messages in order.
     pub fn queue_at(&self, at: usize) -> Result<QueueState, NoMemory>
         requires place { at < length self.now.queues }
@@ -124,6 +137,31 @@ impl Journals {
         ensures exact { IfOk result (λ messages. IfSome (slice_get self.now.queues at) (λ q. messages ≡ q.queue.messages)) }
     {
         self.queues[at].messages()
+    }
+
+    /// The xids by which a message of the queue at a place by name is coming or going, in byte order and each once.
+    pub fn pending(&self, at: usize) -> Result<Seq<Xid>, NoMemory>
+        requires place { at < length self.now.queues }
+        ensures in_order { IfOk result (λ xids. IsStrictlySortedBy (slice_cmp nat_cmp) xids) }
+        ensures exact { IfOk result (λ xids. IfSome (slice_get self.now.queues at) (λ q. (x : List ℕ) → is_listed x xids ≡ is_pending x q.queue)) }
+        ensures xids { IfOk result (λ xids. AllByRecursion IsXid xids) }
+    {
+        self.queues[at].pending()
+    }
+
+    /// A copy of the list's entries, in byte order of xid.
+    pub fn entries(&self) -> Result<Seq<ListEntry>, NoMemory>
+        ensures exact { IfOk result (λ entries. entries ≡ self.now.list.entries) }
+    {
+        let mut entries = Seq::new(self.alloc);
+        while let Some(entry) = self.list.entry_at(entries.len()) {
+            entries.push(ListEntry {
+                xid: entry.xid,
+                rid: entry.rid,
+                state: entry.state,
+            })?;
+        }
+        Ok(entries)
     }
 
     /// The list's entry at a place in byte order of xid, counted from 0; None exactly where there is none.
@@ -159,6 +197,7 @@ impl Journals {
         ensures queues { IfOk result (λ x. queues_of x ≡ with_queue (record { name = name; last = 0; messages = [] }) (queues_of self)) }
         ensures list { IfOk result (λ x. x.list ≡ self.list) }
         ensures kept { IfOk result (λ x. AreJournals (x)) }
+        ensures released { IfOk result (λ x. AreReleased self.queues → AreReleased x.queues) }
         ensures told { Tells (EndsIn (λ x. Changes self (x)) (Passes IsStoreStep) result) (S.told site.old) (S.told site.new) }
         ensures alive { IfOk result (λ x. Carries (IsListAlive self) (IsListAlive (x)) (S.told site.old) (S.told site.new)) }
         ensures drawn { DrawsTaken (is_exact result) (S.told site.old) (S.told site.new) (N.drawn serials.old) (N.drawn serials.new) }
@@ -182,8 +221,8 @@ impl Journals {
 
     /// Takes a queue without messages away: its only file goes back to its pool, by one relocation and no write.
     ///
-    /// The queue of the name stands at the place and has no message. Where told, the site is as the journals' last call left it.
-    /// Only Failed and Memory are answered.
+    /// The queue of the name stands at the place and has no message, and its dead files went back. Where told, the site is
+    /// as the journals' last call left it. Only Failed and Memory are answered.
     pub fn remove<S: Site>(
         mut self,
         site: &mut S,
@@ -192,10 +231,12 @@ impl Journals {
     ) -> Result<Journals, Cause>
         requires place { StandsAt self.queues name.now at }
         requires empty { IfSome (slice_get self.queues at) (λ q. q.queue.messages ≡ []) }
+        requires one { IfSome (slice_get self.queues at) IsReleased }
         requires fits { IfSome (S.told site.old) (OnDisk (Fits self)) }
         ensures queues { IfOk result (λ x. queues_of x ≡ without_queue name.now (queues_of self)) }
         ensures list { IfOk result (λ x. x.list ≡ self.list) }
         ensures kept { IfOk result (λ x. AreJournals (x)) }
+        ensures released { IfOk result (λ x. AreReleased self.queues → AreReleased x.queues) }
         ensures told { Tells (EndsIn (λ x. Changes self (x)) (Passes IsStoreStep) result) (S.told site.old) (S.told site.new) }
         ensures alive { IfOk result (λ x. Carries (IsListAlive self) (IsListAlive (x)) (S.told site.old) (S.told site.new)) }
         ensures none { Tells TakesNone (S.told site.old) (S.told site.new) }
@@ -236,6 +277,7 @@ impl Journals {
         ensures queues { IfOk result (λ x. IfOk x.1 (λ number. IfSome (slice_get self.queues at) (λ q. queues_of x.0 ≡ change_queue q.queue.name (with_message (put_message number body xid)) (queues_of self)))) }
         ensures list { IfOk result (λ x. x.0.list ≡ self.list) }
         ensures kept { IfOk result (λ x. AreJournals (x.0)) }
+        ensures released { IfOk result (λ x. AreReleased self.queues → AreReleased x.0.queues) }
         ensures told { Tells (EndsIn (λ x. Changes self (x.0)) (Passes IsStoreStep) result) (S.told site.old) (S.told site.new) }
         ensures alive { IfOk result (λ x. Carries (IsListAlive self) (IsListAlive (x.0)) (S.told site.old) (S.told site.new)) }
         ensures drawn { DrawsTaken (is_exact result) (S.told site.old) (S.told site.new) (N.drawn serials.old) (N.drawn serials.new) }
@@ -277,6 +319,7 @@ impl Journals {
         ensures queues { IfOk result (λ x. IfOk x.1 (λ _. IfSome (slice_get self.queues at) (λ q. queues_of x.0 ≡ change_queue q.queue.name (taken number xid) (queues_of self)))) }
         ensures list { IfOk result (λ x. x.0.list ≡ self.list) }
         ensures kept { IfOk result (λ x. AreJournals (x.0)) }
+        ensures released { IfOk result (λ x. AreReleased self.queues → AreReleased x.0.queues) }
         ensures told { Tells (EndsIn (λ x. Changes self (x.0)) (Passes IsStoreStep) result) (S.told site.old) (S.told site.new) }
         ensures alive { IfOk result (λ x. Carries (IsListAlive self) (IsListAlive (x.0)) (S.told site.old) (S.told site.new)) }
         ensures drawn { DrawsTaken (is_exact result) (S.told site.old) (S.told site.new) (N.drawn serials.old) (N.drawn serials.new) }
@@ -317,6 +360,7 @@ impl Journals {
         ensures queues { IfOk result (λ x. IfSome (slice_get self.queues at) (λ q. queues_of x ≡ change_queue q.queue.name (ended_by ends.now) (queues_of self))) }
         ensures list { IfOk result (λ x. x.list ≡ self.list) }
         ensures kept { IfOk result (λ x. AreJournals (x)) }
+        ensures released { IfOk result (λ x. AreReleased self.queues → AreReleased x.queues) }
         ensures told { Tells (EndsIn (λ x. Changes self (x)) (Passes IsStoreStep) result) (S.told site.old) (S.told site.new) }
         ensures alive { IfOk result (λ x. Carries (IsListAlive self) (IsListAlive (x)) (S.told site.old) (S.told site.new)) }
         ensures drawn { DrawsTaken (is_exact result) (S.told site.old) (S.told site.new) (N.drawn serials.old) (N.drawn serials.new) }
@@ -443,12 +487,50 @@ impl Journals {
         }
     }
 
+    /// Ends transactions, in one batch: their entries go.
+    ///
+    /// There is at least one, and none twice. The entry of each is decided or of one phase, and in no queue a message is
+    /// coming or going by it. Where told, the site is as the journals' last call left it.
+    pub fn end_all<S: Site, N: Serials>(
+        mut self,
+        site: &mut S,
+        serials: &mut N,
+        xids: &Seq<Xid>,
+    ) -> Result<Journals, Cause>
+        requires some { 0 < length xids.now }
+        requires once { IsDistinct same xids.now }
+        requires decided { AllByRecursion (λ x. MayEnd (entry_of x self.list.entries)) xids.now }
+        requires done { AllByRecursion (λ x. NonePending x (queues_of self)) xids.now }
+        requires fits { IfSome (S.told site.old) (OnDisk (Fits self)) }
+        ensures queues { IfOk result (λ x. x.queues ≡ self.queues) }
+        ensures entries { IfOk result (λ x. x.list.entries ≡ without_entries xids.now self.list.entries) }
+        ensures rid { IfOk result (λ x. rid_of x.list ≡ rid_of self.list) }
+        ensures kept { IfOk result (λ x. AreJournals (x)) }
+        ensures told { Tells (EndsIn (λ x. Changes self (x)) (Passes IsStoreStep) result) (S.told site.old) (S.told site.new) }
+        ensures clean { IfOk result (λ x. Tells (BecomesClean self (x)) (S.told site.old) (S.told site.new)) }
+        ensures drawn { DrawsTaken (is_exact result) (S.told site.old) (S.told site.new) (N.drawn serials.old) (N.drawn serials.new) }
+        ensures leaves { Tells (LeavesDead self) (S.told site.old) (S.told site.new) }
+        ensures writes { Tells (StaysWritten result (λ x. x) self) (S.told site.old) (S.told site.new) }
+        ensures homes { IfOk result (λ x. SameHomes (homes_of (x)) (homes_of self)) }
+        ensures pools { Tells (Passes (TakesFromHome (homes_of self))) (S.told site.old) (S.told site.new) }
+        ensures had { IfOk result (λ _. Tells (HadRoom self journal.List [] (list_ends (rid_of self.list) xids.now)) (S.told site.old) (S.told site.new)) }
+        ensures spent { result ≡ Err Cause.Spent → Tells (StopsAtEnd self journal.List [] (list_ends (rid_of self.list) xids.now)) (S.told site.old) (S.told site.new) }
+        ensures causes { StoreCauses (S.faults site.old) (S.faults site.new) (N.faults serials.old) (N.faults serials.new) result }
+    {
+        files_that_stay_stay_written();
+        log_has_its_room();
+        match self.list.end(site, &mut self.pool, serials, xids) {
+            Ok(()) => Ok(self),
+            Err(error) => Err(cause_of_log(error)),
+        }
+    }
+
     /// Ends a transaction: its entry goes.
     ///
     /// Its entry is decided or of one phase, and in no queue a message is coming or going by it. Where told, the site is as the
     /// journals' last call left it.
     pub fn end<S: Site, N: Serials>(
-        mut self,
+        self,
         site: &mut S,
         serials: &mut N,
         xid: Xid,
@@ -471,13 +553,8 @@ impl Journals {
         ensures spent { result ≡ Err Cause.Spent → Tells (StopsAtEnd self journal.List [] (end_of (rid_of self.list) xid ∷ [])) (S.told site.old) (S.told site.new) }
         ensures causes { StoreCauses (S.faults site.old) (S.faults site.new) (N.faults serials.old) (N.faults serials.new) result }
     {
-        files_that_stay_stay_written();
-        log_has_its_room();
         let mut xids = Seq::new(self.alloc);
         xids.push(xid)?;
-        match self.list.end(site, &mut self.pool, serials, &xids) {
-            Ok(()) => Ok(self),
-            Err(error) => Err(cause_of_log(error)),
-        }
+        self.end_all(site, serials, &xids)
     }
 }

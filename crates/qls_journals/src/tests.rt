@@ -8,7 +8,7 @@ ghost use Rattle.qls_queue.specs.Answers.{is_pending};
 ghost use Rattle.qls_queue.specs.Records.{IsXid};
 ghost use Rattle.qls_replay.specs.Ops.{is_moved, verdict_if};
 ghost use Rattle.qls_journals.specs.Deciding.{NonePending};
-ghost use Rattle.qls_journals.specs.State.{queues_of, Fits};
+ghost use Rattle.qls_journals.specs.State.{queues_of, AreReleased, Fits};
 
 use crate::{Cause, Journals};
 use qls_decide::{End, ListState, Verdict, verdict_of};
@@ -21,7 +21,7 @@ use std::process::Abort;
 use std::test::Fail;
 
 /// The pool of partition 1 whose files have 8 KiB of data, two blocks.
-const HOME: PoolId = PoolId { part: 1, kib: 8 };
+pub(crate) const HOME: PoolId = PoolId { part: 1, kib: 8 };
 
 /// The pools of a site without files.
 fn open_pools<S: Site>(alloc: Global, site: &mut S) -> Result<Pool, Fail>
@@ -36,9 +36,10 @@ fn open_pools<S: Site>(alloc: Global, site: &mut S) -> Result<Pool, Fail>
 
 /// Journals without a queue, on a site without files.
 #[tactic(auto, using(crate::proofs::Tested::nothing_fits))]
-fn open<S: Site>(alloc: Global, site: &mut S) -> Result<Journals, Fail>
+pub(crate) fn open<S: Site>(alloc: Global, site: &mut S) -> Result<Journals, Fail>
     requires empty { IfSome (S.told site.old) (OnDisk (λ d. d ≡ [])) }
     ensures fits { IfOk result (λ journals. IfSome (S.told site.new) (OnDisk (Fits journals))) }
+    ensures released { IfOk result (λ journals. AreReleased journals.queues) }
 {
     let pool = open_pools(alloc, site)?;
     Ok(Journals::new(alloc, HOME, pool))
@@ -91,7 +92,9 @@ fn make<S: Site, N: Serials>(
     letter: u8,
 ) -> Result<(Journals, u8), Cause>
     requires fits { IfSome (S.told site.old) (OnDisk (Fits journals)) }
+    requires released { AreReleased journals.queues }
     ensures fits { IfOk result (λ r. IfSome (S.told site.new) (OnDisk (Fits r.0))) }
+    ensures released { IfOk result (λ r. AreReleased r.0.queues) }
 {
     let name = name_of(letter)?;
     match journals.place_of(&name) {
@@ -101,9 +104,12 @@ fn make<S: Site, N: Serials>(
 }
 
 /// Takes the queue away.
+#[tactic(auto, using(crate::proofs::Tested::released_at))]
 fn unmake<S: Site>(journals: Journals, site: &mut S, letter: u8) -> Result<(Journals, u8), Cause>
     requires fits { IfSome (S.told site.old) (OnDisk (Fits journals)) }
+    requires released { AreReleased journals.queues }
     ensures fits { IfOk result (λ r. IfSome (S.told site.new) (OnDisk (Fits r.0))) }
+    ensures released { IfOk result (λ r. AreReleased r.0.queues) }
 {
     let name = name_of(letter)?;
     let Ok(at) = journals.place_of(&name) else {
@@ -133,7 +139,9 @@ fn put<S: Site, N: Serials>(
     word: (u8, u8, u8),
 ) -> Result<(Journals, u8), Cause>
     requires fits { IfSome (S.told site.old) (OnDisk (Fits journals)) }
+    requires released { AreReleased journals.queues }
     ensures fits { IfOk result (λ r. IfSome (S.told site.new) (OnDisk (Fits r.0))) }
+    ensures released { IfOk result (λ r. AreReleased r.0.queues) }
 {
     let (letter, digit, xid) = word;
     let Some(at) = place(&journals, letter)? else {
@@ -156,7 +164,9 @@ fn take<S: Site, N: Serials>(
     word: (u8, u8, u8),
 ) -> Result<(Journals, u8), Cause>
     requires fits { IfSome (S.told site.old) (OnDisk (Fits journals)) }
+    requires released { AreReleased journals.queues }
     ensures fits { IfOk result (λ r. IfSome (S.told site.new) (OnDisk (Fits r.0))) }
+    ensures released { IfOk result (λ r. AreReleased r.0.queues) }
 {
     let (letter, digit, xid) = word;
     let Some(at) = place(&journals, letter)? else {
@@ -227,7 +237,9 @@ fn finish<S: Site, N: Serials>(
     word: (u8, u8, u8),
 ) -> Result<(Journals, u8), Cause>
     requires fits { IfSome (S.told site.old) (OnDisk (Fits journals)) }
+    requires released { AreReleased journals.queues }
     ensures fits { IfOk result (λ r. IfSome (S.told site.new) (OnDisk (Fits r.0))) }
+    ensures released { IfOk result (λ r. AreReleased r.0.queues) }
 {
     let (letter, _, xid) = word;
     let Some(at) = place(&journals, letter)? else {
@@ -255,7 +267,9 @@ fn enter<S: Site, N: Serials>(
     one_phase: bool,
 ) -> Result<(Journals, u8), Cause>
     requires fits { IfSome (S.told site.old) (OnDisk (Fits journals)) }
+    requires released { AreReleased journals.queues }
     ensures fits { IfOk result (λ r. IfSome (S.told site.new) (OnDisk (Fits r.0))) }
+    ensures released { IfOk result (λ r. AreReleased r.0.queues) }
 {
     if first(&journals).is_some() {
         return Ok((journals, b'?'));
@@ -277,7 +291,9 @@ fn decide<S: Site, N: Serials>(
     commit: bool,
 ) -> Result<(Journals, u8), Cause>
     requires fits { IfSome (S.told site.old) (OnDisk (Fits journals)) }
+    requires released { AreReleased journals.queues }
     ensures fits { IfOk result (λ r. IfSome (S.told site.new) (OnDisk (Fits r.0))) }
+    ensures released { IfOk result (λ r. AreReleased r.0.queues) }
 {
     match first(&journals) {
         Some((xid, ListState::Prepared)) => {
@@ -297,7 +313,9 @@ fn end_entry<S: Site, N: Serials>(
 ) -> Result<(Journals, u8), Cause>
     requires decided { MayEnd (entry_of xid journals.list.entries) }
     requires fits { IfSome (S.told site.old) (OnDisk (Fits journals)) }
+    requires released { AreReleased journals.queues }
     ensures fits { IfOk result (λ r. IfSome (S.told site.new) (OnDisk (Fits r.0))) }
+    ensures released { IfOk result (λ r. AreReleased r.0.queues) }
 {
     if is_pending_in(&journals, journals.queue_count(), &xid)? {
         return Ok((journals, b'n'));
@@ -312,7 +330,9 @@ fn end<S: Site, N: Serials>(
     serials: &mut N,
 ) -> Result<(Journals, u8), Cause>
     requires fits { IfSome (S.told site.old) (OnDisk (Fits journals)) }
+    requires released { AreReleased journals.queues }
     ensures fits { IfOk result (λ r. IfSome (S.told site.new) (OnDisk (Fits r.0))) }
+    ensures released { IfOk result (λ r. AreReleased r.0.queues) }
 {
     match first(&journals) {
         Some((xid, ListState::DecidedCommit)) => end_entry(journals, site, serials, xid),
@@ -331,7 +351,9 @@ fn step<S: Site, N: Serials>(
     word: &[u8],
 ) -> Result<(Journals, u8), Cause>
     requires fits { IfSome (S.told site.old) (OnDisk (Fits journals)) }
+    requires released { AreReleased journals.queues }
     ensures fits { IfOk result (λ r. IfSome (S.told site.new) (OnDisk (Fits r.0))) }
+    ensures released { IfOk result (λ r. AreReleased r.0.queues) }
 {
     let [what, letter, digit, xid] = *word else {
         return Ok((journals, b'?'));
@@ -369,7 +391,9 @@ fn run<S: Site, N: Serials>(
     text: &str,
 ) -> Result<(Option<Journals>, Vec<u8>), NoMemory>
     requires fits { IfSome (S.told site.old) (OnDisk (Fits journals)) }
+    requires released { AreReleased journals.queues }
     ensures fits { IfOk result (λ r. IfSome r.0 (λ journals. IfSome (S.told site.new) (OnDisk (Fits journals)))) }
+    ensures released { IfOk result (λ r. IfSome r.0 (λ journals. AreReleased journals.queues)) }
 {
     let mut answers = Vec::new(alloc);
     let mut open = journals;
@@ -389,7 +413,7 @@ fn run<S: Site, N: Serials>(
 }
 
 /// The letter of a status.
-fn letter_of(status: &Status) -> u8 {
+pub(crate) fn letter_of(status: &Status) -> u8 {
     match status {
         Status::Ready => b'r',
         Status::Coming(_) => b'c',
@@ -422,8 +446,30 @@ fn check_messages(
     Ok(())
 }
 
+/// By these xids, a letter each, messages of the queue are pending, and the list has these entries.
+fn check_xids(
+    rt: &impl Abort,
+    journals: &Journals,
+    letter: u8,
+    pending: &str,
+    entries: &str,
+) -> Result<(), Fail> {
+    let at = place(journals, letter)?.ok_or("a queue")?;
+    let xids = journals.pending(at)?;
+    assert_eq!(rt; xids.len(), pending.len());
+    for (xid, wanted) in xids.as_slice().iter().zip(pending.as_bytes()) {
+        assert_eq!(rt; xid.as_slice(), [*wanted].as_slice());
+    }
+    let listed = journals.entries()?;
+    assert_eq!(rt; listed.len(), entries.len());
+    for (entry, wanted) in listed.as_slice().iter().zip(entries.as_bytes()) {
+        assert_eq!(rt; entry.xid.as_slice(), [*wanted].as_slice());
+    }
+    Ok(())
+}
+
 /// Runs the commands, whose answers are wanted to be these, and none of which ends the journals.
-fn run_all<S: Site, N: Serials>(
+pub(crate) fn run_all<S: Site, N: Serials>(
     rt: &impl Abort,
     alloc: Global,
     journals: Journals,
@@ -433,7 +479,9 @@ fn run_all<S: Site, N: Serials>(
     wanted: &str,
 ) -> Result<Journals, Fail>
     requires fits { IfSome (S.told site.old) (OnDisk (Fits journals)) }
+    requires released { AreReleased journals.queues }
     ensures fits { IfOk result (λ journals. IfSome (S.told site.new) (OnDisk (Fits journals))) }
+    ensures released { IfOk result (λ journals. AreReleased journals.queues) }
 {
     let (open, answers) = run(alloc, journals, site, serials, text)?;
     assert_eq!(rt; answers.as_slice(), wanted.as_bytes(), "{text}");
@@ -455,8 +503,11 @@ fn each_answer<S: Site, N: Serials>(
     let journals = run_all(rt, alloc, journals, site, serials, text, "0011200")?;
     check_messages(rt, &journals, b'a', 0, &[(2, b'g')])?;
     check_messages(rt, &journals, b'b', 1, &[(1, b'c')])?;
-    let text = "P--- fb-x Dc-- E--- pa8x fb-x fa-x fb-x E--- ta3- fa-y +a-- -a-- ta9- ta2z ta2-";
-    let journals = run_all(rt, alloc, journals, site, serials, text, "0d0n3n00000ebm0l")?;
+    check_xids(rt, &journals, b'a', "y", "")?;
+    let journals = run_all(rt, alloc, journals, site, serials, "P---", "0")?;
+    check_xids(rt, &journals, b'b', "x", "x")?;
+    let text = "fb-x Dc-- E--- pa8x fb-x fa-x fb-x E--- ta3- fa-y +a-- -a-- ta9- ta2z ta2-";
+    let journals = run_all(rt, alloc, journals, site, serials, text, "d0n3n00000ebm0l")?;
     check_messages(rt, &journals, b'a', 0, &[(2, b'g')])?;
     check_messages(rt, &journals, b'b', 1, &[(1, b'r')])?;
     let text = "fa-z ta2- tb1- -b-- -b--";

@@ -10,7 +10,7 @@ use Rattle.qls_queue.specs.declared.fault.QueueError.TheVariants as queue
 use Rattle.qls_journals.specs.declared.cause.Cause.{Cause}
 use Rattle.qls_journals.specs.declared.cause.Cause.TheVariants.{Spent}
 use Rattle.qls_journals.specs.State.{JournalsState, AreJournals}
-use Rattle.qls_journals.proofs.Making.{IsMade, legal_opening, leaves_staying, asked, stops, pools_made, had_file, failed_told, writes_unmade, none_written, drawn_so, drawn_cause, spent_error, causes_made, store_passed, none_passed, not_ended, handed_store, handed_queues, handed_homes, handed_changes, handed_alive, handed_writes}
+use Rattle.qls_journals.proofs.Making.{IsMade, legal_opening, leaves_staying, asked, stops, pools_made, had_file, failed_told, writes_unmade, none_written, drawn_so, drawn_cause, spent_error, causes_made, store_passed, none_passed, not_ended, handed_store, handed_queues, handed_homes, handed_released, handed_changes, handed_alive, handed_writes}
 use Rattle.qls_journals.proofs.Resting.{leaves_none, drawn_none}
 use Rattle.qls_journals.proofs.Writing.{passes_of}
 use Rattle.qls_journals.proofs.journals.Journals.create.Given.{Over}
@@ -116,6 +116,10 @@ returns-clause-list g c = ap (λ (s : JournalsState). s.list) c.self.view_is
 pub returns-clause-kept : goal.returns-clause-kept
 returns-clause-kept g c =
     handed_store (was_in g c) c.args.self c.self.view_is (store_in g c) c.args.name c.args.home c.args.at c.requires.place c.in-Ok.queue c.create.new.pool c.requires.name (made_in g c) c.insert.new.self.items (placed_in g c)
+
+pub returns-clause-released : goal.returns-clause-released
+returns-clause-released g c =
+    handed_released (was_in g c) c.args.self c.self.view_is (store_in g c) c.args.name c.args.home c.args.at c.requires.place c.in-Ok.queue c.create.new.pool c.requires.name (made_in g c) c.insert.new.self.items (placed_in g c)
 
 pub returns-clause-told : goal.returns-clause-told
 returns-clause-told g c =

@@ -17,11 +17,11 @@ use Rattle.qls_journals.specs.declared.cause.Cause.{Cause}
 use Rattle.qls_journals.specs.Ends.{HadRoom, StopsAtEnd}
 use Rattle.qls_journals.specs.Homes.{homes_of, SameHomes, TakesFromHome}
 use Rattle.qls_journals.specs.Moments.{Changes, LeavesDead, StaysWritten}
-use Rattle.qls_journals.specs.State.{JournalsState, queues_of, Fits, IsListAlive}
+use Rattle.qls_journals.specs.State.{JournalsState, queues_of, Fits, IsListAlive, AreReleased}
 use Rattle.qls_journals.proofs.Answering.{ended_name, no_end}
 use Rattle.qls_journals.proofs.Making.{causes_made}
 use Rattle.qls_journals.proofs.Placed.{Placed, placed, placed_kept, placed_there, if_placed, next_queue, spent_of, told_had, told_stops, arrives_if_exact}
-use Rattle.qls_journals.proofs.Writing.{NextQueue, CallDone, opening_is, journals_after, queues_after, journals_pass, homes_kept, pools_pass, leaves_so, writes_failed, writes_done, changes_done, told_alive}
+use Rattle.qls_journals.proofs.Writing.{NextQueue, CallDone, opening_is, journals_after, released_after, queues_after, journals_pass, homes_kept, pools_pass, leaves_so, writes_failed, writes_done, changes_done, told_alive}
 use Rattle.qls_journals.proofs.journals.Journals.finish.Goals as goal
 
 pub finish-requires-clause-unended : goal.finish-requires-clause-unended
@@ -46,7 +46,7 @@ invariant_of-self g c =
     let p : Placed s c.args.at q = placed s c.args.at q c.self.invariant (subst (λ (w : JournalsState). c.args.at < length w.queues) (sym c.self.view_is) c.requires.place) c.index_mut.ensures.value in
     let r : LiveState = c.finish.new.self in
     let left : PoolState = c.finish.new.pool in
-    let next : NextQueue q r = next_queue q r (placed_kept s c.args.at q p) (opening_is (end_records q.queue.last c.args.ends.now) q r s.pool left _ _ _ _ c.in-Ok.ensures.written) (ap (λ (x : QueueState). x.name) c.in-Ok.ensures.queue ∙ ended_name c.args.ends.now q.queue) c.in-Ok.ensures.ended c.in-Ok.ensures.sound c.in-Ok.ensures.log c.in-Ok.ensures.one in
+    let next : NextQueue q r = next_queue q r (placed_kept s c.args.at q p) (opening_is (end_records q.queue.last c.args.ends.now) q r s.pool left _ _ _ _ c.in-Ok.ensures.written) (ap (λ (x : QueueState). x.name) c.in-Ok.ensures.queue ∙ ended_name c.args.ends.now q.queue) c.in-Ok.ensures.ended c.in-Ok.ensures.sound c.in-Ok.ensures.log in
     journals_after s p.all c.args.at q p.place p.held r left next
 
 pub returns-in-Ok-clause-queues : goal.returns-in-Ok-clause-queues
@@ -56,7 +56,7 @@ returns-in-Ok-clause-queues g c =
     let p : Placed s c.args.at q = placed s c.args.at q c.self.invariant (subst (λ (w : JournalsState). c.args.at < length w.queues) (sym c.self.view_is) c.requires.place) c.index_mut.ensures.value in
     let r : LiveState = c.finish.new.self in
     let left : PoolState = c.finish.new.pool in
-    let next : NextQueue q r = next_queue q r (placed_kept s c.args.at q p) (opening_is (end_records q.queue.last c.args.ends.now) q r s.pool left _ _ _ _ c.in-Ok.ensures.written) (ap (λ (x : QueueState). x.name) c.in-Ok.ensures.queue ∙ ended_name c.args.ends.now q.queue) c.in-Ok.ensures.ended c.in-Ok.ensures.sound c.in-Ok.ensures.log c.in-Ok.ensures.one in
+    let next : NextQueue q r = next_queue q r (placed_kept s c.args.at q p) (opening_is (end_records q.queue.last c.args.ends.now) q r s.pool left _ _ _ _ c.in-Ok.ensures.written) (ap (λ (x : QueueState). x.name) c.in-Ok.ensures.queue ∙ ended_name c.args.ends.now q.queue) c.in-Ok.ensures.ended c.in-Ok.ensures.sound c.in-Ok.ensures.log in
     subst (λ (w : JournalsState). IfSome (slice_get w.queues c.args.at) (λ (u : LiveState). queues_of (record { home = s.home; pool = left; queues = set s.queues c.args.at r; list = s.list }) ≡ change_queue u.queue.name (ended_by c.args.ends.now) (queues_of w))) c.self.view_is
     (if_placed s c.args.at q (λ (u : LiveState). queues_of (record { home = s.home; pool = left; queues = set s.queues c.args.at r; list = s.list }) ≡ change_queue u.queue.name (ended_by c.args.ends.now) (queues_of s)) p
     (queues_after s p.all c.args.at q p.place p.held r left next (ended_by c.args.ends.now) c.in-Ok.ensures.queue))
@@ -72,8 +72,18 @@ returns-in-Ok-clause-kept g c =
     let p : Placed s c.args.at q = placed s c.args.at q c.self.invariant (subst (λ (w : JournalsState). c.args.at < length w.queues) (sym c.self.view_is) c.requires.place) c.index_mut.ensures.value in
     let r : LiveState = c.finish.new.self in
     let left : PoolState = c.finish.new.pool in
-    let next : NextQueue q r = next_queue q r (placed_kept s c.args.at q p) (opening_is (end_records q.queue.last c.args.ends.now) q r s.pool left _ _ _ _ c.in-Ok.ensures.written) (ap (λ (x : QueueState). x.name) c.in-Ok.ensures.queue ∙ ended_name c.args.ends.now q.queue) c.in-Ok.ensures.ended c.in-Ok.ensures.sound c.in-Ok.ensures.log c.in-Ok.ensures.one in
+    let next : NextQueue q r = next_queue q r (placed_kept s c.args.at q p) (opening_is (end_records q.queue.last c.args.ends.now) q r s.pool left _ _ _ _ c.in-Ok.ensures.written) (ap (λ (x : QueueState). x.name) c.in-Ok.ensures.queue ∙ ended_name c.args.ends.now q.queue) c.in-Ok.ensures.ended c.in-Ok.ensures.sound c.in-Ok.ensures.log in
     journals_after s p.all c.args.at q p.place p.held r left next
+
+pub returns-in-Ok-clause-released : goal.returns-in-Ok-clause-released
+returns-in-Ok-clause-released g c =
+    let s : JournalsState = record { home = c.self.inside.home; pool = c.self.inside.pool; queues = c.self.inside.queues.items; list = c.self.inside.list } in
+    let q : LiveState = c.index_mut.result.now in
+    let p : Placed s c.args.at q = placed s c.args.at q c.self.invariant (subst (λ (w : JournalsState). c.args.at < length w.queues) (sym c.self.view_is) c.requires.place) c.index_mut.ensures.value in
+    let r : LiveState = c.finish.new.self in
+    let left : PoolState = c.finish.new.pool in
+    let next : NextQueue q r = next_queue q r (placed_kept s c.args.at q p) (opening_is (end_records q.queue.last c.args.ends.now) q r s.pool left _ _ _ _ c.in-Ok.ensures.written) (ap (λ (x : QueueState). x.name) c.in-Ok.ensures.queue ∙ ended_name c.args.ends.now q.queue) c.in-Ok.ensures.ended c.in-Ok.ensures.sound c.in-Ok.ensures.log in
+    subst (λ (w : JournalsState). AreReleased w.queues → AreReleased (set s.queues c.args.at r)) c.self.view_is (released_after s p.all c.args.at q p.place p.held r left next c.in-Ok.ensures.one)
 
 pub returns-in-Ok-clause-told : goal.returns-in-Ok-clause-told
 returns-in-Ok-clause-told g c =
@@ -83,7 +93,7 @@ returns-in-Ok-clause-told g c =
     let fits : IfSome (g.S.Site.told c.args.site.now) (OnDisk (Fits s)) = subst (λ w. IfSome (g.S.Site.told c.args.site.now) (OnDisk (Fits w))) (sym c.self.view_is) c.requires.fits in
     let r : LiveState = c.finish.new.self in
     let left : PoolState = c.finish.new.pool in
-    let next : NextQueue q r = next_queue q r (placed_kept s c.args.at q p) (opening_is (end_records q.queue.last c.args.ends.now) q r s.pool left _ _ _ _ c.in-Ok.ensures.written) (ap (λ (x : QueueState). x.name) c.in-Ok.ensures.queue ∙ ended_name c.args.ends.now q.queue) c.in-Ok.ensures.ended c.in-Ok.ensures.sound c.in-Ok.ensures.log c.in-Ok.ensures.one in
+    let next : NextQueue q r = next_queue q r (placed_kept s c.args.at q p) (opening_is (end_records q.queue.last c.args.ends.now) q r s.pool left _ _ _ _ c.in-Ok.ensures.written) (ap (λ (x : QueueState). x.name) c.in-Ok.ensures.queue ∙ ended_name c.args.ends.now q.queue) c.in-Ok.ensures.ended c.in-Ok.ensures.sound c.in-Ok.ensures.log in
     let done : CallDone (end_records q.queue.last c.args.ends.now) q r s.pool left (g.N.Serials.drawn c.args.serials.now) (g.N.Serials.drawn c.finish.new.serials) (g.S.Site.told c.args.site.now) (g.S.Site.told c.finish.new.site) = record {
       went = c.in-Ok.ensures.went;
       quiet = c.in-Ok.ensures.quiet;
@@ -103,7 +113,7 @@ returns-in-Ok-clause-alive g c =
     let p : Placed s c.args.at q = placed s c.args.at q c.self.invariant (subst (λ (w : JournalsState). c.args.at < length w.queues) (sym c.self.view_is) c.requires.place) c.index_mut.ensures.value in
     let r : LiveState = c.finish.new.self in
     let left : PoolState = c.finish.new.pool in
-    let next : NextQueue q r = next_queue q r (placed_kept s c.args.at q p) (opening_is (end_records q.queue.last c.args.ends.now) q r s.pool left _ _ _ _ c.in-Ok.ensures.written) (ap (λ (x : QueueState). x.name) c.in-Ok.ensures.queue ∙ ended_name c.args.ends.now q.queue) c.in-Ok.ensures.ended c.in-Ok.ensures.sound c.in-Ok.ensures.log c.in-Ok.ensures.one in
+    let next : NextQueue q r = next_queue q r (placed_kept s c.args.at q p) (opening_is (end_records q.queue.last c.args.ends.now) q r s.pool left _ _ _ _ c.in-Ok.ensures.written) (ap (λ (x : QueueState). x.name) c.in-Ok.ensures.queue ∙ ended_name c.args.ends.now q.queue) c.in-Ok.ensures.ended c.in-Ok.ensures.sound c.in-Ok.ensures.log in
     subst (λ (w : JournalsState). Carries (IsListAlive w) (IsListAlive (record { home = s.home; pool = left; queues = set s.queues c.args.at r; list = s.list })) (g.S.Site.told c.args.site.now) (g.S.Site.told c.finish.new.site)) c.self.view_is
     (told_alive s p.all c.args.at q p.place p.held r left next (g.S.Site.told c.args.site.now) (g.S.Site.told c.finish.new.site) c.in-Ok.ensures.went)
 
@@ -122,7 +132,7 @@ returns-in-Ok-clause-writes g c =
     let fits : IfSome (g.S.Site.told c.args.site.now) (OnDisk (Fits s)) = subst (λ w. IfSome (g.S.Site.told c.args.site.now) (OnDisk (Fits w))) (sym c.self.view_is) c.requires.fits in
     let r : LiveState = c.finish.new.self in
     let left : PoolState = c.finish.new.pool in
-    let next : NextQueue q r = next_queue q r (placed_kept s c.args.at q p) (opening_is (end_records q.queue.last c.args.ends.now) q r s.pool left _ _ _ _ c.in-Ok.ensures.written) (ap (λ (x : QueueState). x.name) c.in-Ok.ensures.queue ∙ ended_name c.args.ends.now q.queue) c.in-Ok.ensures.ended c.in-Ok.ensures.sound c.in-Ok.ensures.log c.in-Ok.ensures.one in
+    let next : NextQueue q r = next_queue q r (placed_kept s c.args.at q p) (opening_is (end_records q.queue.last c.args.ends.now) q r s.pool left _ _ _ _ c.in-Ok.ensures.written) (ap (λ (x : QueueState). x.name) c.in-Ok.ensures.queue ∙ ended_name c.args.ends.now q.queue) c.in-Ok.ensures.ended c.in-Ok.ensures.sound c.in-Ok.ensures.log in
     subst (λ (w : JournalsState). Tells (StaysWritten {X = JournalsState} {E = Cause} (Ok (record { home = s.home; pool = left; queues = set s.queues c.args.at r; list = s.list })) (λ (x : JournalsState). x) w) (g.S.Site.told c.args.site.now) (g.S.Site.told c.finish.new.site)) c.self.view_is
     (writes_done s p.all c.args.at q p.place p.held r left next c.files_that_stay_stay_written.ensures.stays (tt {0}) (record { home = s.home; pool = left; queues = set s.queues c.args.at r; list = s.list }) (λ (x : JournalsState). x) (g.S.Site.told c.args.site.now) (g.S.Site.told c.finish.new.site) refl fits c.in-Ok.ensures.went c.in-Ok.ensures.writes)
 
@@ -133,7 +143,7 @@ returns-in-Ok-clause-homes g c =
     let p : Placed s c.args.at q = placed s c.args.at q c.self.invariant (subst (λ (w : JournalsState). c.args.at < length w.queues) (sym c.self.view_is) c.requires.place) c.index_mut.ensures.value in
     let r : LiveState = c.finish.new.self in
     let left : PoolState = c.finish.new.pool in
-    let next : NextQueue q r = next_queue q r (placed_kept s c.args.at q p) (opening_is (end_records q.queue.last c.args.ends.now) q r s.pool left _ _ _ _ c.in-Ok.ensures.written) (ap (λ (x : QueueState). x.name) c.in-Ok.ensures.queue ∙ ended_name c.args.ends.now q.queue) c.in-Ok.ensures.ended c.in-Ok.ensures.sound c.in-Ok.ensures.log c.in-Ok.ensures.one in
+    let next : NextQueue q r = next_queue q r (placed_kept s c.args.at q p) (opening_is (end_records q.queue.last c.args.ends.now) q r s.pool left _ _ _ _ c.in-Ok.ensures.written) (ap (λ (x : QueueState). x.name) c.in-Ok.ensures.queue ∙ ended_name c.args.ends.now q.queue) c.in-Ok.ensures.ended c.in-Ok.ensures.sound c.in-Ok.ensures.log in
     subst (λ (w : JournalsState). SameHomes (homes_of (record { home = s.home; pool = left; queues = set s.queues c.args.at r; list = s.list })) (homes_of w)) c.self.view_is (homes_kept s p.all c.args.at q p.place p.held r left next)
 
 pub returns-in-Ok-clause-pools : goal.returns-in-Ok-clause-pools

@@ -12,21 +12,22 @@ use Rattle.qls_filehdr.specs.declared.JournalKind.TheVariants.{Queue}
 use Rattle.qls_pool.specs.Pools.{PoolState}
 use Rattle.qls_pool.specs.Files.{OnDisk, Carries}
 use Rattle.qls_pool.specs.Moments.{Passes}
+use Rattle.qls_pool.specs.Serials.{DrawsTaken}
 use Rattle.qls_log.specs.Steps.{IsLogStep}
 use Rattle.qls_queue.specs.Live.{LiveState}
 use Rattle.qls_queue.specs.Records.{enqueue_of}
 use Rattle.qls_queue.specs.declared.fault.QueueError.{QueueError}
 use Rattle.qls_queue.specs.declared.fault.QueueError.TheVariants as queue
 use Rattle.qls_journals.specs.declared.cause.Cause.{Cause}
-use Rattle.qls_journals.specs.Answers.{put_answer, StoreCauses}
+use Rattle.qls_journals.specs.Answers.{put_answer, is_exact, StoreCauses}
 use Rattle.qls_journals.specs.Ends.{HadRoom, StopsAtEnd}
 use Rattle.qls_journals.specs.Homes.{homes_of, SameHomes, TakesFromHome}
 use Rattle.qls_journals.specs.Moments.{IsStoreStep, Changes, LeavesDead, StaysWritten}
-use Rattle.qls_journals.specs.State.{JournalsState, queues_of, AreJournals, Fits, IsListAlive}
-use Rattle.qls_journals.proofs.Answering.{if_err, put_done, put_spent, put_no_err, put_at_last, numbers_of, ends_numbers, no_end, no_err, err_is, causes_answered}
+use Rattle.qls_journals.specs.State.{JournalsState, queues_of, AreJournals, Fits, IsListAlive, AreReleased}
+use Rattle.qls_journals.proofs.Answering.{if_err, put_done, put_spent, put_no_err, put_at_last, numbers_of, ends_numbers, no_end, no_err, err_is, drawn_of, causes_answered}
 use Rattle.qls_journals.proofs.Making.{causes_made}
 use Rattle.qls_journals.proofs.Placed.{Placed, placed, placed_kept, placed_there, if_placed, next_queue, below_last, ends_err, spent_of, same_journals, same_homes, told_refused, alive_refused, writes_refused, told_had, told_stops, arrives_if_exact}
-use Rattle.qls_journals.proofs.Writing.{NextQueue, CallDone, opening_is, journals_after, queues_after, journals_pass, homes_kept, pools_pass, leaves_so, writes_failed, writes_done, changes_done, told_alive}
+use Rattle.qls_journals.proofs.Writing.{NextQueue, CallDone, opening_is, journals_after, released_after, queues_after, journals_pass, homes_kept, pools_pass, leaves_so, writes_failed, writes_done, changes_done, told_alive}
 use Rattle.qls_journals.proofs.journals.Journals.put.Goals as goal
 
 pub put-requires-clause-unended : goal.put-requires-clause-unended
@@ -51,7 +52,7 @@ invariant_of-self g c =
     let p : Placed s c.args.at q = placed s c.args.at q c.self.invariant (subst (λ (w : JournalsState). c.args.at < length w.queues) (sym c.self.view_is) c.requires.place) c.index_mut.ensures.value in
     let r : LiveState = c.put.new.self in
     let left : PoolState = c.put.new.pool in
-    let next : NextQueue q r = next_queue q r (placed_kept s c.args.at q p) (opening_is (enqueue_of c.in-Ok.number c.args.body c.args.xid ∷ []) q r s.pool left _ _ _ _ c.in-Ok.ensures.written) (ap (λ (x : QueueState). x.name) c.in-Ok.ensures.queue) c.in-Ok.ensures.ended c.in-Ok.ensures.sound c.in-Ok.ensures.log c.in-Ok.ensures.one in
+    let next : NextQueue q r = next_queue q r (placed_kept s c.args.at q p) (opening_is (enqueue_of c.in-Ok.number c.args.body c.args.xid ∷ []) q r s.pool left _ _ _ _ c.in-Ok.ensures.written) (ap (λ (x : QueueState). x.name) c.in-Ok.ensures.queue) c.in-Ok.ensures.ended c.in-Ok.ensures.sound c.in-Ok.ensures.log in
     journals_after s p.all c.args.at q p.place p.held r left next
 
 pub returns-in-Ok-clause-answer : goal.returns-in-Ok-clause-answer
@@ -81,7 +82,7 @@ returns-in-Ok-clause-queues g c =
     let p : Placed s c.args.at q = placed s c.args.at q c.self.invariant (subst (λ (w : JournalsState). c.args.at < length w.queues) (sym c.self.view_is) c.requires.place) c.index_mut.ensures.value in
     let r : LiveState = c.put.new.self in
     let left : PoolState = c.put.new.pool in
-    let next : NextQueue q r = next_queue q r (placed_kept s c.args.at q p) (opening_is (enqueue_of c.in-Ok.number c.args.body c.args.xid ∷ []) q r s.pool left _ _ _ _ c.in-Ok.ensures.written) (ap (λ (x : QueueState). x.name) c.in-Ok.ensures.queue) c.in-Ok.ensures.ended c.in-Ok.ensures.sound c.in-Ok.ensures.log c.in-Ok.ensures.one in
+    let next : NextQueue q r = next_queue q r (placed_kept s c.args.at q p) (opening_is (enqueue_of c.in-Ok.number c.args.body c.args.xid ∷ []) q r s.pool left _ _ _ _ c.in-Ok.ensures.written) (ap (λ (x : QueueState). x.name) c.in-Ok.ensures.queue) c.in-Ok.ensures.ended c.in-Ok.ensures.sound c.in-Ok.ensures.log in
     subst (λ (w : JournalsState). IfSome (slice_get w.queues c.args.at) (λ (u : LiveState). queues_of (record { home = s.home; pool = left; queues = set s.queues c.args.at r; list = s.list }) ≡ change_queue u.queue.name (with_message (put_message c.in-Ok.number c.args.body c.args.xid)) (queues_of w))) c.self.view_is
     (if_placed s c.args.at q (λ (u : LiveState). queues_of (record { home = s.home; pool = left; queues = set s.queues c.args.at r; list = s.list }) ≡ change_queue u.queue.name (with_message (put_message c.in-Ok.number c.args.body c.args.xid)) (queues_of s)) p
     (queues_after s p.all c.args.at q p.place p.held r left next (with_message (put_message c.in-Ok.number c.args.body c.args.xid)) c.in-Ok.ensures.queue))
@@ -97,8 +98,18 @@ returns-in-Ok-clause-kept g c =
     let p : Placed s c.args.at q = placed s c.args.at q c.self.invariant (subst (λ (w : JournalsState). c.args.at < length w.queues) (sym c.self.view_is) c.requires.place) c.index_mut.ensures.value in
     let r : LiveState = c.put.new.self in
     let left : PoolState = c.put.new.pool in
-    let next : NextQueue q r = next_queue q r (placed_kept s c.args.at q p) (opening_is (enqueue_of c.in-Ok.number c.args.body c.args.xid ∷ []) q r s.pool left _ _ _ _ c.in-Ok.ensures.written) (ap (λ (x : QueueState). x.name) c.in-Ok.ensures.queue) c.in-Ok.ensures.ended c.in-Ok.ensures.sound c.in-Ok.ensures.log c.in-Ok.ensures.one in
+    let next : NextQueue q r = next_queue q r (placed_kept s c.args.at q p) (opening_is (enqueue_of c.in-Ok.number c.args.body c.args.xid ∷ []) q r s.pool left _ _ _ _ c.in-Ok.ensures.written) (ap (λ (x : QueueState). x.name) c.in-Ok.ensures.queue) c.in-Ok.ensures.ended c.in-Ok.ensures.sound c.in-Ok.ensures.log in
     journals_after s p.all c.args.at q p.place p.held r left next
+
+pub returns-in-Ok-clause-released : goal.returns-in-Ok-clause-released
+returns-in-Ok-clause-released g c =
+    let s : JournalsState = record { home = c.self.inside.home; pool = c.self.inside.pool; queues = c.self.inside.queues.items; list = c.self.inside.list } in
+    let q : LiveState = c.index_mut.result.now in
+    let p : Placed s c.args.at q = placed s c.args.at q c.self.invariant (subst (λ (w : JournalsState). c.args.at < length w.queues) (sym c.self.view_is) c.requires.place) c.index_mut.ensures.value in
+    let r : LiveState = c.put.new.self in
+    let left : PoolState = c.put.new.pool in
+    let next : NextQueue q r = next_queue q r (placed_kept s c.args.at q p) (opening_is (enqueue_of c.in-Ok.number c.args.body c.args.xid ∷ []) q r s.pool left _ _ _ _ c.in-Ok.ensures.written) (ap (λ (x : QueueState). x.name) c.in-Ok.ensures.queue) c.in-Ok.ensures.ended c.in-Ok.ensures.sound c.in-Ok.ensures.log in
+    subst (λ (w : JournalsState). AreReleased w.queues → AreReleased (set s.queues c.args.at r)) c.self.view_is (released_after s p.all c.args.at q p.place p.held r left next c.in-Ok.ensures.one)
 
 pub returns-in-Ok-clause-told : goal.returns-in-Ok-clause-told
 returns-in-Ok-clause-told g c =
@@ -108,7 +119,7 @@ returns-in-Ok-clause-told g c =
     let fits : IfSome (g.S.Site.told c.args.site.now) (OnDisk (Fits s)) = subst (λ w. IfSome (g.S.Site.told c.args.site.now) (OnDisk (Fits w))) (sym c.self.view_is) c.requires.fits in
     let r : LiveState = c.put.new.self in
     let left : PoolState = c.put.new.pool in
-    let next : NextQueue q r = next_queue q r (placed_kept s c.args.at q p) (opening_is (enqueue_of c.in-Ok.number c.args.body c.args.xid ∷ []) q r s.pool left _ _ _ _ c.in-Ok.ensures.written) (ap (λ (x : QueueState). x.name) c.in-Ok.ensures.queue) c.in-Ok.ensures.ended c.in-Ok.ensures.sound c.in-Ok.ensures.log c.in-Ok.ensures.one in
+    let next : NextQueue q r = next_queue q r (placed_kept s c.args.at q p) (opening_is (enqueue_of c.in-Ok.number c.args.body c.args.xid ∷ []) q r s.pool left _ _ _ _ c.in-Ok.ensures.written) (ap (λ (x : QueueState). x.name) c.in-Ok.ensures.queue) c.in-Ok.ensures.ended c.in-Ok.ensures.sound c.in-Ok.ensures.log in
     let done : CallDone (enqueue_of c.in-Ok.number c.args.body c.args.xid ∷ []) q r s.pool left (g.N.Serials.drawn c.args.serials.now) (g.N.Serials.drawn c.put.new.serials) (g.S.Site.told c.args.site.now) (g.S.Site.told c.put.new.site) = record {
       went = c.in-Ok.ensures.went;
       quiet = c.in-Ok.ensures.quiet;
@@ -128,7 +139,7 @@ returns-in-Ok-clause-alive g c =
     let p : Placed s c.args.at q = placed s c.args.at q c.self.invariant (subst (λ (w : JournalsState). c.args.at < length w.queues) (sym c.self.view_is) c.requires.place) c.index_mut.ensures.value in
     let r : LiveState = c.put.new.self in
     let left : PoolState = c.put.new.pool in
-    let next : NextQueue q r = next_queue q r (placed_kept s c.args.at q p) (opening_is (enqueue_of c.in-Ok.number c.args.body c.args.xid ∷ []) q r s.pool left _ _ _ _ c.in-Ok.ensures.written) (ap (λ (x : QueueState). x.name) c.in-Ok.ensures.queue) c.in-Ok.ensures.ended c.in-Ok.ensures.sound c.in-Ok.ensures.log c.in-Ok.ensures.one in
+    let next : NextQueue q r = next_queue q r (placed_kept s c.args.at q p) (opening_is (enqueue_of c.in-Ok.number c.args.body c.args.xid ∷ []) q r s.pool left _ _ _ _ c.in-Ok.ensures.written) (ap (λ (x : QueueState). x.name) c.in-Ok.ensures.queue) c.in-Ok.ensures.ended c.in-Ok.ensures.sound c.in-Ok.ensures.log in
     subst (λ (w : JournalsState). Carries (IsListAlive w) (IsListAlive (record { home = s.home; pool = left; queues = set s.queues c.args.at r; list = s.list })) (g.S.Site.told c.args.site.now) (g.S.Site.told c.put.new.site)) c.self.view_is
     (told_alive s p.all c.args.at q p.place p.held r left next (g.S.Site.told c.args.site.now) (g.S.Site.told c.put.new.site) c.in-Ok.ensures.went)
 
@@ -147,7 +158,7 @@ returns-in-Ok-clause-writes g c =
     let fits : IfSome (g.S.Site.told c.args.site.now) (OnDisk (Fits s)) = subst (λ w. IfSome (g.S.Site.told c.args.site.now) (OnDisk (Fits w))) (sym c.self.view_is) c.requires.fits in
     let r : LiveState = c.put.new.self in
     let left : PoolState = c.put.new.pool in
-    let next : NextQueue q r = next_queue q r (placed_kept s c.args.at q p) (opening_is (enqueue_of c.in-Ok.number c.args.body c.args.xid ∷ []) q r s.pool left _ _ _ _ c.in-Ok.ensures.written) (ap (λ (x : QueueState). x.name) c.in-Ok.ensures.queue) c.in-Ok.ensures.ended c.in-Ok.ensures.sound c.in-Ok.ensures.log c.in-Ok.ensures.one in
+    let next : NextQueue q r = next_queue q r (placed_kept s c.args.at q p) (opening_is (enqueue_of c.in-Ok.number c.args.body c.args.xid ∷ []) q r s.pool left _ _ _ _ c.in-Ok.ensures.written) (ap (λ (x : QueueState). x.name) c.in-Ok.ensures.queue) c.in-Ok.ensures.ended c.in-Ok.ensures.sound c.in-Ok.ensures.log in
     subst (λ (w : JournalsState). Tells (StaysWritten {X = JournalsState × Result ℕ Refusal} {E = Cause} (Ok ((record { home = s.home; pool = left; queues = set s.queues c.args.at r; list = s.list }), (Ok c.in-Ok.number))) (λ (x : JournalsState × Result ℕ Refusal). x.0) w) (g.S.Site.told c.args.site.now) (g.S.Site.told c.put.new.site)) c.self.view_is
     (writes_done s p.all c.args.at q p.place p.held r left next c.files_that_stay_stay_written.ensures.stays c.in-Ok.number ((record { home = s.home; pool = left; queues = set s.queues c.args.at r; list = s.list }), (Ok c.in-Ok.number)) (λ (x : JournalsState × Result ℕ Refusal). x.0) (g.S.Site.told c.args.site.now) (g.S.Site.told c.put.new.site) refl fits c.in-Ok.ensures.went c.in-Ok.ensures.writes)
 
@@ -158,7 +169,7 @@ returns-in-Ok-clause-homes g c =
     let p : Placed s c.args.at q = placed s c.args.at q c.self.invariant (subst (λ (w : JournalsState). c.args.at < length w.queues) (sym c.self.view_is) c.requires.place) c.index_mut.ensures.value in
     let r : LiveState = c.put.new.self in
     let left : PoolState = c.put.new.pool in
-    let next : NextQueue q r = next_queue q r (placed_kept s c.args.at q p) (opening_is (enqueue_of c.in-Ok.number c.args.body c.args.xid ∷ []) q r s.pool left _ _ _ _ c.in-Ok.ensures.written) (ap (λ (x : QueueState). x.name) c.in-Ok.ensures.queue) c.in-Ok.ensures.ended c.in-Ok.ensures.sound c.in-Ok.ensures.log c.in-Ok.ensures.one in
+    let next : NextQueue q r = next_queue q r (placed_kept s c.args.at q p) (opening_is (enqueue_of c.in-Ok.number c.args.body c.args.xid ∷ []) q r s.pool left _ _ _ _ c.in-Ok.ensures.written) (ap (λ (x : QueueState). x.name) c.in-Ok.ensures.queue) c.in-Ok.ensures.ended c.in-Ok.ensures.sound c.in-Ok.ensures.log in
     subst (λ (w : JournalsState). SameHomes (homes_of (record { home = s.home; pool = left; queues = set s.queues c.args.at r; list = s.list })) (homes_of w)) c.self.view_is (homes_kept s p.all c.args.at q p.place p.held r left next)
 
 pub returns-in-Ok-clause-pools : goal.returns-in-Ok-clause-pools
@@ -202,6 +213,12 @@ returns-in_err-refusal_or_cause-in-Err-clause-writes g c =
     let given : Err c.in_err-refusal_or_cause-in-Err.field-0.0 ≡ c.from_residual.result = search (rules, c.from_residual.ensures) in
     subst (λ v. Tells (StaysWritten v (λ (x : JournalsState × Result ℕ Refusal). x.0) c.args.self) (g.S.Site.told c.args.site.now) (g.S.Site.told c.put.new.site)) given
     (subst (λ (w : JournalsState). Tells (StaysWritten {X = JournalsState × Result ℕ Refusal} {E = Cause} (Err c.in_err-refusal_or_cause-in-Err.field-0.0) (λ (x : JournalsState × Result ℕ Refusal). x.0) w) (g.S.Site.told c.args.site.now) (g.S.Site.told c.put.new.site)) c.self.view_is (writes_failed s p.all c.args.at q p.place p.held {X = ℕ} (Err c.in-Err.error) c.put.new.self c.in_err-refusal_or_cause-in-Err.field-0.0 (λ (x : JournalsState × Result ℕ Refusal). x.0) (g.S.Site.told c.args.site.now) (g.S.Site.told c.put.new.site) c.in-Err.ensures.writes))
+
+pub returns-in_err-refusal_or_cause-in-Err-clause-drawn : goal.returns-in_err-refusal_or_cause-in-Err-clause-drawn
+returns-in_err-refusal_or_cause-in-Err-clause-drawn g c =
+    let given : Err c.in_err-refusal_or_cause-in-Err.field-0.0 ≡ c.from_residual.result = search (rules, c.from_residual.ensures) in
+    subst (λ v. DrawsTaken (is_exact v) (g.S.Site.told c.args.site.now) (g.S.Site.told c.put.new.site) (g.N.Serials.drawn c.args.serials.now) (g.N.Serials.drawn c.put.new.serials)) given
+    (drawn_of (JournalsState × Result ℕ Refusal) c.in-Err.error c.in_err-refusal_or_cause-in-Err.field-0.0 _ _ _ _ c.in_err-refusal_or_cause-in-Err.ensures.exact c.in-Err.ensures.drew)
 
 pub returns-in_err-refusal_or_cause-in-Err-clause-pools : goal.returns-in_err-refusal_or_cause-in-Err-clause-pools
 returns-in_err-refusal_or_cause-in-Err-clause-pools g c =
@@ -321,6 +338,17 @@ returns-in_ok-refusal_or_cause-in-Err-clause-kept g c =
     let calls = c.in-Err.ensures.no_call is in
     let same : (record { home = s.home; pool = c.put.new.pool; queues = set s.queues c.args.at c.put.new.self; list = s.list }) ≡ s = same_journals s c.args.at q c.put.new.self c.put.new.pool p (c.in-Err.ensures.refused is) calls.1 in
     subst AreJournals (sym same) p.all
+
+pub returns-in_ok-refusal_or_cause-in-Err-clause-released : goal.returns-in_ok-refusal_or_cause-in-Err-clause-released
+returns-in_ok-refusal_or_cause-in-Err-clause-released g c =
+    let s : JournalsState = record { home = c.self.inside.home; pool = c.self.inside.pool; queues = c.self.inside.queues.items; list = c.self.inside.list } in
+    let q : LiveState = c.index_mut.result.now in
+    let p : Placed s c.args.at q = placed s c.args.at q c.self.invariant (subst (λ (w : JournalsState). c.args.at < length w.queues) (sym c.self.view_is) c.requires.place) c.index_mut.ensures.value in
+    let f : (c.in-Err.error ≡ queue.Numbers) × (c.in_ok-refusal_or_cause-in-Err.field-0 ≡ refusal.Spent) = numbers_of c.in-Err.error c.in_ok-refusal_or_cause-in-Err.field-0 c.in_ok-refusal_or_cause-in-Err.ensures.exact (λ e. c.in-Err.ensures.no_other.0 (ap (λ x. Err x) e)) (λ e. c.in-Err.ensures.no_other.1 (ap (λ x. Err x) e)) in
+    let is : ◌≡◌ {A = Result ℕ QueueError} (Err c.in-Err.error) (Err queue.Numbers) = ap (λ x. Err x) f.0 in
+    let calls = c.in-Err.ensures.no_call is in
+    let same : (record { home = s.home; pool = c.put.new.pool; queues = set s.queues c.args.at c.put.new.self; list = s.list }) ≡ s = same_journals s c.args.at q c.put.new.self c.put.new.pool p (c.in-Err.ensures.refused is) calls.1 in
+    subst (λ (w : JournalsState). AreReleased w.queues → AreReleased (set s.queues c.args.at c.put.new.self)) c.self.view_is (λ h. subst (λ (w : JournalsState). AreReleased w.queues) (sym same) h)
 
 pub returns-in_ok-refusal_or_cause-in-Err-clause-told : goal.returns-in_ok-refusal_or_cause-in-Err-clause-told
 returns-in_ok-refusal_or_cause-in-Err-clause-told g c =

@@ -1,7 +1,7 @@
 use Rattle.std.proofs.Common.{◌<◌, ap, subst, arith, length}
 use Rattle.qls_log.specs.Steps.{IsLogStep}
 use Rattle.qls_journals.specs.State.{JournalsState, AreJournals}
-use Rattle.qls_journals.proofs.Dropping.{IsDropped, dropped_there, place_within, kept_queue, stands_there, leaves_so, store_passes, pool_there, writes_failed, causes_dropped, pools_untaken, handed_store, handed_queues, handed_homes, handed_changes, handed_alive, handed_writes}
+use Rattle.qls_journals.proofs.Dropping.{IsDropped, dropped_there, place_within, kept_queue, stands_there, leaves_so, store_passes, pool_there, writes_failed, causes_dropped, pools_untaken, handed_store, handed_queues, handed_homes, handed_released, handed_changes, handed_alive, handed_writes}
 use Rattle.qls_journals.proofs.Writing.{passes_of}
 use Rattle.qls_journals.proofs.journals.Journals.remove.Given.{Over}
 use Rattle.qls_journals.proofs.journals.Journals.remove.Goals as goal
@@ -16,25 +16,25 @@ remove-queue-requires g c =
 pub drop_empty-requires-clause-unended : goal.drop_empty-requires-clause-unended
 drop_empty-requires-clause-unended g c =
     let was : JournalsState = record { home = c.self.inside.home; pool = c.self.inside.pool; queues = c.self.inside.queues.items; list = c.self.inside.list } in
-    let gone : IsDropped c.args.self c.args.at c.args.name.now c.remove-queue.result = dropped_there was c.args.self c.self.view_is c.args.name.now c.args.at c.remove-queue.result c.requires.place c.requires.empty c.remove-queue.ensures.value in
+    let gone : IsDropped c.args.self c.args.at c.args.name.now c.remove-queue.result = dropped_there was c.args.self c.self.view_is c.args.name.now c.args.at c.remove-queue.result c.requires.place c.requires.empty c.requires.one c.remove-queue.ensures.value in
     (kept_queue c.args.self (subst AreJournals c.self.view_is c.self.invariant) c.args.at c.args.name.now c.remove-queue.result gone).unended
 
 pub drop_empty-requires-clause-empty : goal.drop_empty-requires-clause-empty
 drop_empty-requires-clause-empty g c =
     let was : JournalsState = record { home = c.self.inside.home; pool = c.self.inside.pool; queues = c.self.inside.queues.items; list = c.self.inside.list } in
-    let gone : IsDropped c.args.self c.args.at c.args.name.now c.remove-queue.result = dropped_there was c.args.self c.self.view_is c.args.name.now c.args.at c.remove-queue.result c.requires.place c.requires.empty c.remove-queue.ensures.value in
+    let gone : IsDropped c.args.self c.args.at c.args.name.now c.remove-queue.result = dropped_there was c.args.self c.self.view_is c.args.name.now c.args.at c.remove-queue.result c.requires.place c.requires.empty c.requires.one c.remove-queue.ensures.value in
     gone.empty
 
 pub drop_empty-requires-clause-one : goal.drop_empty-requires-clause-one
 drop_empty-requires-clause-one g c =
     let was : JournalsState = record { home = c.self.inside.home; pool = c.self.inside.pool; queues = c.self.inside.queues.items; list = c.self.inside.list } in
-    let gone : IsDropped c.args.self c.args.at c.args.name.now c.remove-queue.result = dropped_there was c.args.self c.self.view_is c.args.name.now c.args.at c.remove-queue.result c.requires.place c.requires.empty c.remove-queue.ensures.value in
-    (kept_queue c.args.self (subst AreJournals c.self.view_is c.self.invariant) c.args.at c.args.name.now c.remove-queue.result gone).one gone.empty
+    let gone : IsDropped c.args.self c.args.at c.args.name.now c.remove-queue.result = dropped_there was c.args.self c.self.view_is c.args.name.now c.args.at c.remove-queue.result c.requires.place c.requires.empty c.requires.one c.remove-queue.ensures.value in
+    gone.one
 
 pub drop_empty-requires-clause-there : goal.drop_empty-requires-clause-there
 drop_empty-requires-clause-there g c =
     let was : JournalsState = record { home = c.self.inside.home; pool = c.self.inside.pool; queues = c.self.inside.queues.items; list = c.self.inside.list } in
-    let gone : IsDropped c.args.self c.args.at c.args.name.now c.remove-queue.result = dropped_there was c.args.self c.self.view_is c.args.name.now c.args.at c.remove-queue.result c.requires.place c.requires.empty c.remove-queue.ensures.value in
+    let gone : IsDropped c.args.self c.args.at c.args.name.now c.remove-queue.result = dropped_there was c.args.self c.self.view_is c.args.name.now c.args.at c.remove-queue.result c.requires.place c.requires.empty c.requires.one c.remove-queue.ensures.value in
     stands_there c.args.self (subst AreJournals c.self.view_is c.self.invariant) c.args.at c.args.name.now c.remove-queue.result gone (g.S.Site.told c.args.site.now) c.requires.fits
 
 pub drop_empty-requires-clause-pool : goal.drop_empty-requires-clause-pool
@@ -47,13 +47,13 @@ drop_empty-requires-clause-pool g c =
 pub returns-in-Err-clause-told : goal.returns-in-Err-clause-told
 returns-in-Err-clause-told g c =
     let was : JournalsState = record { home = c.self.inside.home; pool = c.self.inside.pool; queues = c.self.inside.queues.items; list = c.self.inside.list } in
-    let gone : IsDropped c.args.self c.args.at c.args.name.now c.remove-queue.result = dropped_there was c.args.self c.self.view_is c.args.name.now c.args.at c.remove-queue.result c.requires.place c.requires.empty c.remove-queue.ensures.value in
+    let gone : IsDropped c.args.self c.args.at c.args.name.now c.remove-queue.result = dropped_there was c.args.self c.self.view_is c.args.name.now c.args.at c.remove-queue.result c.requires.place c.requires.empty c.requires.one c.remove-queue.ensures.value in
     store_passes c.args.self (subst AreJournals c.self.view_is c.self.invariant) c.args.at c.args.name.now c.remove-queue.result gone c.drop_empty.result _ _ c.drop_empty.ensures.went
 
 pub returns-in-Err-clause-leaves : goal.returns-in-Err-clause-leaves
 returns-in-Err-clause-leaves g c =
     let was : JournalsState = record { home = c.self.inside.home; pool = c.self.inside.pool; queues = c.self.inside.queues.items; list = c.self.inside.list } in
-    let gone : IsDropped c.args.self c.args.at c.args.name.now c.remove-queue.result = dropped_there was c.args.self c.self.view_is c.args.name.now c.args.at c.remove-queue.result c.requires.place c.requires.empty c.remove-queue.ensures.value in
+    let gone : IsDropped c.args.self c.args.at c.args.name.now c.remove-queue.result = dropped_there was c.args.self c.self.view_is c.args.name.now c.args.at c.remove-queue.result c.requires.place c.requires.empty c.requires.one c.remove-queue.ensures.value in
     leaves_so c.args.self (subst AreJournals c.self.view_is c.self.invariant) c.args.at c.args.name.now c.remove-queue.result gone _ _ c.drop_empty.ensures.leaves
 
 pub returns-in-Err-clause-writes : goal.returns-in-Err-clause-writes
@@ -75,7 +75,7 @@ store_in : (g : Over) (c : goal.In-Ok g) → AreJournals c.args.self
 store_in g c = subst AreJournals c.self.view_is c.self.invariant
 
 gone_in : (g : Over) (c : goal.In-Ok g) → IsDropped c.args.self c.args.at c.args.name.now c.remove-queue.result
-gone_in g c = dropped_there (was_in g c) c.args.self c.self.view_is c.args.name.now c.args.at c.remove-queue.result c.requires.place c.requires.empty c.remove-queue.ensures.value
+gone_in g c = dropped_there (was_in g c) c.args.self c.self.view_is c.args.name.now c.args.at c.remove-queue.result c.requires.place c.requires.empty c.requires.one c.remove-queue.ensures.value
 
 pub invariant_of-self : goal.invariant_of-self
 invariant_of-self g c =
@@ -91,6 +91,10 @@ returns-in-Ok-clause-list g c = ap (λ (s : JournalsState). s.list) c.self.view_
 pub returns-in-Ok-clause-kept : goal.returns-in-Ok-clause-kept
 returns-in-Ok-clause-kept g c =
     handed_store (was_in g c) c.args.self c.self.view_is (store_in g c) c.args.at c.args.name.now c.remove-queue.result (gone_in g c) c.drop_empty.new.pool c.remove-queue.new.self.items c.remove-queue.ensures.items
+
+pub returns-in-Ok-clause-released : goal.returns-in-Ok-clause-released
+returns-in-Ok-clause-released g c =
+    handed_released (was_in g c) c.args.self c.self.view_is (store_in g c) c.args.at c.args.name.now c.remove-queue.result (gone_in g c) c.drop_empty.new.pool c.remove-queue.new.self.items c.remove-queue.ensures.items
 
 pub returns-in-Ok-clause-told : goal.returns-in-Ok-clause-told
 returns-in-Ok-clause-told g c =

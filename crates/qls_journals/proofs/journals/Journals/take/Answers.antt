@@ -23,11 +23,11 @@ use Rattle.qls_journals.specs.Answers.{take_by, StoreCauses}
 use Rattle.qls_journals.specs.Ends.{HadRoom, StopsAtEnd}
 use Rattle.qls_journals.specs.Homes.{homes_of, SameHomes, TakesFromHome}
 use Rattle.qls_journals.specs.Moments.{IsStoreStep, Changes, LeavesDead, StaysWritten}
-use Rattle.qls_journals.specs.State.{JournalsState, queues_of, AreJournals, Fits, IsListAlive}
+use Rattle.qls_journals.specs.State.{JournalsState, queues_of, AreJournals, Fits, IsListAlive, AreReleased}
 use Rattle.qls_journals.proofs.Answering.{if_err, take_done, take_refused, take_not, take_ready, ends_take, taken_name, no_end, no_err, err_is, no_both, causes_answered}
 use Rattle.qls_journals.proofs.Making.{causes_made}
 use Rattle.qls_journals.proofs.Placed.{Placed, placed, placed_kept, placed_there, if_placed, next_queue, ends_err, spent_of, refused_by, same_journals, same_homes, told_refused, alive_refused, writes_refused, told_had, told_stops, arrives_if_exact}
-use Rattle.qls_journals.proofs.Writing.{NextQueue, CallDone, opening_is, journals_after, queues_after, journals_pass, homes_kept, pools_pass, leaves_so, writes_failed, writes_done, changes_done, told_alive}
+use Rattle.qls_journals.proofs.Writing.{NextQueue, CallDone, opening_is, journals_after, released_after, queues_after, journals_pass, homes_kept, pools_pass, leaves_so, writes_failed, writes_done, changes_done, told_alive}
 use Rattle.qls_journals.proofs.journals.Journals.take.Goals as goal
 
 pub take-requires-clause-unended : goal.take-requires-clause-unended
@@ -52,7 +52,7 @@ invariant_of-self g c =
     let p : Placed s c.args.at q = placed s c.args.at q c.self.invariant (subst (λ (w : JournalsState). c.args.at < length w.queues) (sym c.self.view_is) c.requires.place) c.index_mut.ensures.value in
     let r : LiveState = c.take.new.self in
     let left : PoolState = c.take.new.pool in
-    let next : NextQueue q r = next_queue q r (placed_kept s c.args.at q p) (opening_is (dequeue_of q.queue.last c.args.number c.args.xid ∷ []) q r s.pool left _ _ _ _ c.in-Ok.ensures.written) (ap (λ (x : QueueState). x.name) c.in-Ok.ensures.queue ∙ taken_name c.args.number c.args.xid q.queue) c.in-Ok.ensures.ended c.in-Ok.ensures.sound c.in-Ok.ensures.log c.in-Ok.ensures.one in
+    let next : NextQueue q r = next_queue q r (placed_kept s c.args.at q p) (opening_is (dequeue_of q.queue.last c.args.number c.args.xid ∷ []) q r s.pool left _ _ _ _ c.in-Ok.ensures.written) (ap (λ (x : QueueState). x.name) c.in-Ok.ensures.queue ∙ taken_name c.args.number c.args.xid q.queue) c.in-Ok.ensures.ended c.in-Ok.ensures.sound c.in-Ok.ensures.log in
     journals_after s p.all c.args.at q p.place p.held r left next
 
 pub returns-in-Ok-clause-answer : goal.returns-in-Ok-clause-answer
@@ -81,7 +81,7 @@ returns-in-Ok-clause-queues g c =
     let p : Placed s c.args.at q = placed s c.args.at q c.self.invariant (subst (λ (w : JournalsState). c.args.at < length w.queues) (sym c.self.view_is) c.requires.place) c.index_mut.ensures.value in
     let r : LiveState = c.take.new.self in
     let left : PoolState = c.take.new.pool in
-    let next : NextQueue q r = next_queue q r (placed_kept s c.args.at q p) (opening_is (dequeue_of q.queue.last c.args.number c.args.xid ∷ []) q r s.pool left _ _ _ _ c.in-Ok.ensures.written) (ap (λ (x : QueueState). x.name) c.in-Ok.ensures.queue ∙ taken_name c.args.number c.args.xid q.queue) c.in-Ok.ensures.ended c.in-Ok.ensures.sound c.in-Ok.ensures.log c.in-Ok.ensures.one in
+    let next : NextQueue q r = next_queue q r (placed_kept s c.args.at q p) (opening_is (dequeue_of q.queue.last c.args.number c.args.xid ∷ []) q r s.pool left _ _ _ _ c.in-Ok.ensures.written) (ap (λ (x : QueueState). x.name) c.in-Ok.ensures.queue ∙ taken_name c.args.number c.args.xid q.queue) c.in-Ok.ensures.ended c.in-Ok.ensures.sound c.in-Ok.ensures.log in
     subst (λ (w : JournalsState). IfSome (slice_get w.queues c.args.at) (λ (u : LiveState). queues_of (record { home = s.home; pool = left; queues = set s.queues c.args.at r; list = s.list }) ≡ change_queue u.queue.name (taken c.args.number c.args.xid) (queues_of w))) c.self.view_is
     (if_placed s c.args.at q (λ (u : LiveState). queues_of (record { home = s.home; pool = left; queues = set s.queues c.args.at r; list = s.list }) ≡ change_queue u.queue.name (taken c.args.number c.args.xid) (queues_of s)) p
     (queues_after s p.all c.args.at q p.place p.held r left next (taken c.args.number c.args.xid) c.in-Ok.ensures.queue))
@@ -97,8 +97,18 @@ returns-in-Ok-clause-kept g c =
     let p : Placed s c.args.at q = placed s c.args.at q c.self.invariant (subst (λ (w : JournalsState). c.args.at < length w.queues) (sym c.self.view_is) c.requires.place) c.index_mut.ensures.value in
     let r : LiveState = c.take.new.self in
     let left : PoolState = c.take.new.pool in
-    let next : NextQueue q r = next_queue q r (placed_kept s c.args.at q p) (opening_is (dequeue_of q.queue.last c.args.number c.args.xid ∷ []) q r s.pool left _ _ _ _ c.in-Ok.ensures.written) (ap (λ (x : QueueState). x.name) c.in-Ok.ensures.queue ∙ taken_name c.args.number c.args.xid q.queue) c.in-Ok.ensures.ended c.in-Ok.ensures.sound c.in-Ok.ensures.log c.in-Ok.ensures.one in
+    let next : NextQueue q r = next_queue q r (placed_kept s c.args.at q p) (opening_is (dequeue_of q.queue.last c.args.number c.args.xid ∷ []) q r s.pool left _ _ _ _ c.in-Ok.ensures.written) (ap (λ (x : QueueState). x.name) c.in-Ok.ensures.queue ∙ taken_name c.args.number c.args.xid q.queue) c.in-Ok.ensures.ended c.in-Ok.ensures.sound c.in-Ok.ensures.log in
     journals_after s p.all c.args.at q p.place p.held r left next
+
+pub returns-in-Ok-clause-released : goal.returns-in-Ok-clause-released
+returns-in-Ok-clause-released g c =
+    let s : JournalsState = record { home = c.self.inside.home; pool = c.self.inside.pool; queues = c.self.inside.queues.items; list = c.self.inside.list } in
+    let q : LiveState = c.index_mut.result.now in
+    let p : Placed s c.args.at q = placed s c.args.at q c.self.invariant (subst (λ (w : JournalsState). c.args.at < length w.queues) (sym c.self.view_is) c.requires.place) c.index_mut.ensures.value in
+    let r : LiveState = c.take.new.self in
+    let left : PoolState = c.take.new.pool in
+    let next : NextQueue q r = next_queue q r (placed_kept s c.args.at q p) (opening_is (dequeue_of q.queue.last c.args.number c.args.xid ∷ []) q r s.pool left _ _ _ _ c.in-Ok.ensures.written) (ap (λ (x : QueueState). x.name) c.in-Ok.ensures.queue ∙ taken_name c.args.number c.args.xid q.queue) c.in-Ok.ensures.ended c.in-Ok.ensures.sound c.in-Ok.ensures.log in
+    subst (λ (w : JournalsState). AreReleased w.queues → AreReleased (set s.queues c.args.at r)) c.self.view_is (released_after s p.all c.args.at q p.place p.held r left next c.in-Ok.ensures.one)
 
 pub returns-in-Ok-clause-told : goal.returns-in-Ok-clause-told
 returns-in-Ok-clause-told g c =
@@ -108,7 +118,7 @@ returns-in-Ok-clause-told g c =
     let fits : IfSome (g.S.Site.told c.args.site.now) (OnDisk (Fits s)) = subst (λ w. IfSome (g.S.Site.told c.args.site.now) (OnDisk (Fits w))) (sym c.self.view_is) c.requires.fits in
     let r : LiveState = c.take.new.self in
     let left : PoolState = c.take.new.pool in
-    let next : NextQueue q r = next_queue q r (placed_kept s c.args.at q p) (opening_is (dequeue_of q.queue.last c.args.number c.args.xid ∷ []) q r s.pool left _ _ _ _ c.in-Ok.ensures.written) (ap (λ (x : QueueState). x.name) c.in-Ok.ensures.queue ∙ taken_name c.args.number c.args.xid q.queue) c.in-Ok.ensures.ended c.in-Ok.ensures.sound c.in-Ok.ensures.log c.in-Ok.ensures.one in
+    let next : NextQueue q r = next_queue q r (placed_kept s c.args.at q p) (opening_is (dequeue_of q.queue.last c.args.number c.args.xid ∷ []) q r s.pool left _ _ _ _ c.in-Ok.ensures.written) (ap (λ (x : QueueState). x.name) c.in-Ok.ensures.queue ∙ taken_name c.args.number c.args.xid q.queue) c.in-Ok.ensures.ended c.in-Ok.ensures.sound c.in-Ok.ensures.log in
     let done : CallDone (dequeue_of q.queue.last c.args.number c.args.xid ∷ []) q r s.pool left (g.N.Serials.drawn c.args.serials.now) (g.N.Serials.drawn c.take.new.serials) (g.S.Site.told c.args.site.now) (g.S.Site.told c.take.new.site) = record {
       went = c.in-Ok.ensures.went;
       quiet = c.in-Ok.ensures.quiet;
@@ -128,7 +138,7 @@ returns-in-Ok-clause-alive g c =
     let p : Placed s c.args.at q = placed s c.args.at q c.self.invariant (subst (λ (w : JournalsState). c.args.at < length w.queues) (sym c.self.view_is) c.requires.place) c.index_mut.ensures.value in
     let r : LiveState = c.take.new.self in
     let left : PoolState = c.take.new.pool in
-    let next : NextQueue q r = next_queue q r (placed_kept s c.args.at q p) (opening_is (dequeue_of q.queue.last c.args.number c.args.xid ∷ []) q r s.pool left _ _ _ _ c.in-Ok.ensures.written) (ap (λ (x : QueueState). x.name) c.in-Ok.ensures.queue ∙ taken_name c.args.number c.args.xid q.queue) c.in-Ok.ensures.ended c.in-Ok.ensures.sound c.in-Ok.ensures.log c.in-Ok.ensures.one in
+    let next : NextQueue q r = next_queue q r (placed_kept s c.args.at q p) (opening_is (dequeue_of q.queue.last c.args.number c.args.xid ∷ []) q r s.pool left _ _ _ _ c.in-Ok.ensures.written) (ap (λ (x : QueueState). x.name) c.in-Ok.ensures.queue ∙ taken_name c.args.number c.args.xid q.queue) c.in-Ok.ensures.ended c.in-Ok.ensures.sound c.in-Ok.ensures.log in
     subst (λ (w : JournalsState). Carries (IsListAlive w) (IsListAlive (record { home = s.home; pool = left; queues = set s.queues c.args.at r; list = s.list })) (g.S.Site.told c.args.site.now) (g.S.Site.told c.take.new.site)) c.self.view_is
     (told_alive s p.all c.args.at q p.place p.held r left next (g.S.Site.told c.args.site.now) (g.S.Site.told c.take.new.site) c.in-Ok.ensures.went)
 
@@ -147,7 +157,7 @@ returns-in-Ok-clause-writes g c =
     let fits : IfSome (g.S.Site.told c.args.site.now) (OnDisk (Fits s)) = subst (λ w. IfSome (g.S.Site.told c.args.site.now) (OnDisk (Fits w))) (sym c.self.view_is) c.requires.fits in
     let r : LiveState = c.take.new.self in
     let left : PoolState = c.take.new.pool in
-    let next : NextQueue q r = next_queue q r (placed_kept s c.args.at q p) (opening_is (dequeue_of q.queue.last c.args.number c.args.xid ∷ []) q r s.pool left _ _ _ _ c.in-Ok.ensures.written) (ap (λ (x : QueueState). x.name) c.in-Ok.ensures.queue ∙ taken_name c.args.number c.args.xid q.queue) c.in-Ok.ensures.ended c.in-Ok.ensures.sound c.in-Ok.ensures.log c.in-Ok.ensures.one in
+    let next : NextQueue q r = next_queue q r (placed_kept s c.args.at q p) (opening_is (dequeue_of q.queue.last c.args.number c.args.xid ∷ []) q r s.pool left _ _ _ _ c.in-Ok.ensures.written) (ap (λ (x : QueueState). x.name) c.in-Ok.ensures.queue ∙ taken_name c.args.number c.args.xid q.queue) c.in-Ok.ensures.ended c.in-Ok.ensures.sound c.in-Ok.ensures.log in
     subst (λ (w : JournalsState). Tells (StaysWritten {X = JournalsState × Result (Unit {0}) Refusal} {E = Cause} (Ok ((record { home = s.home; pool = left; queues = set s.queues c.args.at r; list = s.list }), (Ok tt))) (λ (x : JournalsState × Result (Unit {0}) Refusal). x.0) w) (g.S.Site.told c.args.site.now) (g.S.Site.told c.take.new.site)) c.self.view_is
     (writes_done s p.all c.args.at q p.place p.held r left next c.files_that_stay_stay_written.ensures.stays (tt {0}) ((record { home = s.home; pool = left; queues = set s.queues c.args.at r; list = s.list }), (Ok tt)) (λ (x : JournalsState × Result (Unit {0}) Refusal). x.0) (g.S.Site.told c.args.site.now) (g.S.Site.told c.take.new.site) refl fits c.in-Ok.ensures.went c.in-Ok.ensures.writes)
 
@@ -158,7 +168,7 @@ returns-in-Ok-clause-homes g c =
     let p : Placed s c.args.at q = placed s c.args.at q c.self.invariant (subst (λ (w : JournalsState). c.args.at < length w.queues) (sym c.self.view_is) c.requires.place) c.index_mut.ensures.value in
     let r : LiveState = c.take.new.self in
     let left : PoolState = c.take.new.pool in
-    let next : NextQueue q r = next_queue q r (placed_kept s c.args.at q p) (opening_is (dequeue_of q.queue.last c.args.number c.args.xid ∷ []) q r s.pool left _ _ _ _ c.in-Ok.ensures.written) (ap (λ (x : QueueState). x.name) c.in-Ok.ensures.queue ∙ taken_name c.args.number c.args.xid q.queue) c.in-Ok.ensures.ended c.in-Ok.ensures.sound c.in-Ok.ensures.log c.in-Ok.ensures.one in
+    let next : NextQueue q r = next_queue q r (placed_kept s c.args.at q p) (opening_is (dequeue_of q.queue.last c.args.number c.args.xid ∷ []) q r s.pool left _ _ _ _ c.in-Ok.ensures.written) (ap (λ (x : QueueState). x.name) c.in-Ok.ensures.queue ∙ taken_name c.args.number c.args.xid q.queue) c.in-Ok.ensures.ended c.in-Ok.ensures.sound c.in-Ok.ensures.log in
     subst (λ (w : JournalsState). SameHomes (homes_of (record { home = s.home; pool = left; queues = set s.queues c.args.at r; list = s.list })) (homes_of w)) c.self.view_is (homes_kept s p.all c.args.at q p.place p.held r left next)
 
 pub returns-in-Ok-clause-pools : goal.returns-in-Ok-clause-pools
@@ -316,6 +326,16 @@ returns-in_ok-refusal_or_cause-in-Err-clause-kept g c =
     let calls = c.in-Err.ensures.no_call refuses in
     let same : (record { home = s.home; pool = c.take.new.pool; queues = set s.queues c.args.at c.take.new.self; list = s.list }) ≡ s = same_journals s c.args.at q c.take.new.self c.take.new.pool p (c.in-Err.ensures.refused refuses) calls.1 in
     subst AreJournals (sym same) p.all
+
+pub returns-in_ok-refusal_or_cause-in-Err-clause-released : goal.returns-in_ok-refusal_or_cause-in-Err-clause-released
+returns-in_ok-refusal_or_cause-in-Err-clause-released g c =
+    let s : JournalsState = record { home = c.self.inside.home; pool = c.self.inside.pool; queues = c.self.inside.queues.items; list = c.self.inside.list } in
+    let q : LiveState = c.index_mut.result.now in
+    let p : Placed s c.args.at q = placed s c.args.at q c.self.invariant (subst (λ (w : JournalsState). c.args.at < length w.queues) (sym c.self.view_is) c.requires.place) c.index_mut.ensures.value in
+    let refuses : is_fault c.in-Err.error ≡ false = refused_by c.in-Err.error c.in_ok-refusal_or_cause-in-Err.field-0 c.in_ok-refusal_or_cause-in-Err.ensures.exact in
+    let calls = c.in-Err.ensures.no_call refuses in
+    let same : (record { home = s.home; pool = c.take.new.pool; queues = set s.queues c.args.at c.take.new.self; list = s.list }) ≡ s = same_journals s c.args.at q c.take.new.self c.take.new.pool p (c.in-Err.ensures.refused refuses) calls.1 in
+    subst (λ (w : JournalsState). AreReleased w.queues → AreReleased (set s.queues c.args.at c.take.new.self)) c.self.view_is (λ h. subst (λ (w : JournalsState). AreReleased w.queues) (sym same) h)
 
 pub returns-in_ok-refusal_or_cause-in-Err-clause-told : goal.returns-in_ok-refusal_or_cause-in-Err-clause-told
 returns-in_ok-refusal_or_cause-in-Err-clause-told g c =
