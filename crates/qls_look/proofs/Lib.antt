@@ -2,5 +2,5 @@ mod Settling
 mod Queues
 mod Lists
 mod Order
-mod There
+pub mod There
 mod Whole

@@ -9,6 +9,7 @@ use Rattle.qls_site.specs.Content.{Content, Tells}
 use Rattle.qls_site.proofs.Told.{Tells-then, Tells-weaken}
 use Rattle.qls_filehdr.specs.declared.JournalKind.{JournalKind}
 use Rattle.qls_filehdr.specs.declared.JournalKind.TheVariants as journal
+use Rattle.qls_meaning.specs.Orderly.{journal_on}
 use Rattle.qls_meaning.specs.Spent.{list_rid}
 use Rattle.qls_blocks.specs.Batching.{length_of, block_length}
 use Rattle.qls_decide.specs.declared.End.{End}
@@ -19,15 +20,15 @@ use Rattle.qls_queue.specs.Records.{IsXid, end_record, end_records}
 use Rattle.qls_queue.proofs.Then.{unmarked_front, unmarked_rest}
 use Rattle.qls_prepared.specs.Lists.{rid_of}
 use Rattle.qls_prepared.specs.Records.{decision_of, end_of, one_phase_records}
-use Rattle.qls_model.specs.declared.machine.PoolId.{PoolId}
 use Rattle.qls_journals.specs.declared.cause.Cause.{Cause}
 use Rattle.qls_journals.specs.declared.cause.Cause.TheVariants.{Spent}
-use Rattle.qls_journals.specs.Ends.{at_end_for, StopsAtEnd, HadRoom}
-use Rattle.qls_journals.specs.Homes.{homes_of, SameHomes}
+use Rattle.qls_journals.specs.Ends.{at_end_by, at_end_for, StopsAtEnd, HadRoom}
+use Rattle.qls_journals.specs.Homes.{Home, Homes, homes_of, SameHomes}
 use Rattle.qls_journals.specs.Moments.{IsStoreStep, Changes}
 use Rattle.qls_journals.specs.State.{JournalsState, Fits, IsWhole}
 use Rattle.qls_store.specs.Ends.{Need, list_need}
 use Rattle.qls_store.specs.Calls.{NeedsOne, NeedsOneRid, StopsInOne, HadFirst}
+use Rattle.qls_store.proofs.Together.{home_same}
 
 -- ---- sizes
 
@@ -56,11 +57,11 @@ module _ (was : JournalsState) (kind : JournalKind) (name : List ℕ) (rs : List
   abbrev need : Need
   need = record { kind = kind; name = name; bytes = 4096 }
 
-  of_size : (d : Disk) → at_end_for was.home kind name (block_length (length_of rs)) d ≡ true → at_end_for was.home kind name 4096 d ≡ true
-  of_size d e = subst (λ n. at_end_for was.home kind name n d ≡ true) size e
+  of_size : (d : Disk) → at_end_for (homes_of was) kind name (block_length (length_of rs)) d ≡ true → at_end_for (homes_of was) kind name 4096 d ≡ true
+  of_size d e = subst (λ n. at_end_for (homes_of was) kind name n d ≡ true) size e
 
-  to_size : (d : Disk) → at_end_for was.home kind name 4096 d ≡ true → at_end_for was.home kind name (block_length (length_of rs)) d ≡ true
-  to_size d e = subst (λ n. at_end_for was.home kind name n d ≡ true) (sym size) e
+  to_size : (d : Disk) → at_end_for (homes_of was) kind name 4096 d ≡ true → at_end_for (homes_of was) kind name (block_length (length_of rs)) d ≡ true
+  to_size d e = subst (λ n. at_end_for (homes_of was) kind name n d ≡ true) (sym size) e
 
   stops_one : (raises : Bool) (a b : Content) → StopsAtEnd was kind name rs a b → StopsInOne was raises (need ∷ []) a b
   stops_one raises a b h = record { arrives = h.arrives; meets = λ u w. inr (record { at = 0; need = need; there = refl; spent = of_size b.now.disk (h.meets u w) }) }
@@ -132,8 +133,12 @@ get_behind : {A : Type 0} (xs ys : List A) (i : ℕ) → (j : ℕ) × (slice_get
 get_behind [] ys i = (i, refl)
 get_behind (x ∷ xs) ys i = let h = get_behind xs ys i in (suc h.0, h.1)
 
+-- the room for a batch depends on its journal's home alone
+pub at_end_same : (h k : Homes) → SameHomes h k → (kind : JournalKind) (name : List ℕ) (needed : ℕ) (d : Disk) → at_end_for h kind name needed d ≡ at_end_for k kind name needed d
+at_end_same h k s kind name needed d = ap (λ (o : Option Home). at_end_by o d (journal_on d kind name) needed) (home_same h k s kind name)
+
 abbrev pub Lacks : JournalsState → Bool → List Need → Disk → Type 0
-Lacks was raises needs d = NeedsOneRid raises d ⊎ NeedsOne was.home needs d
+Lacks was raises needs d = NeedsOneRid raises d ⊎ NeedsOne (homes_of was) needs d
 
 lacks_front : (was : JournalsState) (raises : Bool) (xs ys : List Need) (d : Disk) → Lacks was raises xs d → Lacks was raises (xs ++ ys) d
 lacks_front was raises xs ys d (inl n) = inl n
@@ -143,17 +148,17 @@ pub stops_front : (was : JournalsState) (raises : Bool) (xs ys : List Need) (a b
 stops_front was raises xs ys a b h =
     Tells-weaken (StopsInOne was raises xs) (StopsInOne was raises (xs ++ ys)) a b h (λ x y k. record { arrives = k.arrives; meets = λ u w. lacks_front was raises xs ys y.now.disk (k.meets u w) })
 
-lacks_behind : (was mid : JournalsState) → mid.home ≡ was.home → (raises : Bool) (xs ys : List Need) (d : Disk) → Lacks mid false ys d → Lacks was raises (xs ++ ys) d
+lacks_behind : (was mid : JournalsState) → SameHomes (homes_of mid) (homes_of was) → (raises : Bool) (xs ys : List Need) (d : Disk) → Lacks mid false ys d → Lacks was raises (xs ++ ys) d
 lacks_behind was mid e raises xs ys d (inl n) = absurd (false_true n.raised)
   where
     false_true : false ≡ true → ⊥
     false_true e = cc
 lacks_behind was mid e raises xs ys d (inr n) =
     let j = get_behind xs ys n.at in
-    inr (record { at = j.0; need = n.need; there = j.1 ∙ n.there; spent = ap (λ (p : PoolId). at_end_for p n.need.kind n.need.name n.need.bytes d) (sym e) ∙ n.spent })
+    inr (record { at = j.0; need = n.need; there = j.1 ∙ n.there; spent = sym (at_end_same (homes_of mid) (homes_of was) e n.need.kind n.need.name n.need.bytes d) ∙ n.spent })
 
 -- the first calls went well, and a later one stopped
-stops_behind : (was mid : JournalsState) → mid.home ≡ was.home → (raises : Bool) (xs ys : List Need) (a b c : Content) → Changes was mid a b → StopsInOne mid false ys b c → StopsInOne was raises (xs ++ ys) a c
+stops_behind : (was mid : JournalsState) → SameHomes (homes_of mid) (homes_of was) → (raises : Bool) (xs ys : List Need) (a b c : Content) → Changes was mid a b → StopsInOne mid false ys b c → StopsInOne was raises (xs ++ ys) a c
 stops_behind was mid e raises xs ys a b c h k = record {
   arrives = Arrives-then IsStoreStep a b c h.arrives k.arrives;
   meets = λ u w. lacks_behind was mid e raises xs ys c.now.disk
@@ -163,7 +168,7 @@ stops_behind was mid e raises xs ys a b c h k = record {
 
 pub told_stops_behind : (was mid : JournalsState) → SameHomes (homes_of mid) (homes_of was) → (raises : Bool) (xs ys : List Need) (a b c : Option Content) → Tells (Changes was mid) a b → Tells (StopsInOne mid false ys) b c
     → Tells (StopsInOne was raises (xs ++ ys)) a c
-told_stops_behind was mid e raises xs ys a b c h k = Tells-then (Changes was mid) (StopsInOne mid false ys) (StopsInOne was raises (xs ++ ys)) a b c h k (stops_behind was mid e.default raises xs ys)
+told_stops_behind was mid e raises xs ys a b c h k = Tells-then (Changes was mid) (StopsInOne mid false ys) (StopsInOne was raises (xs ++ ys)) a b c h k (stops_behind was mid e raises xs ys)
 
 only_one : (n m : Need) (at : ℕ) → slice_get (n ∷ []) at ≡ Some m → n ≡ m
 only_one n m zero e = same e
@@ -172,15 +177,15 @@ only_one n m zero e = same e
     same e = cc
 only_one n m (suc at) e = absurd (cc)
 
-lacks_one : (was mid : JournalsState) → mid.home ≡ was.home → (raises : Bool) (n : Need) (needs : List Need) (i : ℕ) → slice_get needs i ≡ Some n → (d : Disk) → Lacks mid false (n ∷ []) d → Lacks was raises needs d
+lacks_one : (was mid : JournalsState) → SameHomes (homes_of mid) (homes_of was) → (raises : Bool) (n : Need) (needs : List Need) (i : ℕ) → slice_get needs i ≡ Some n → (d : Disk) → Lacks mid false (n ∷ []) d → Lacks was raises needs d
 lacks_one was mid e raises n needs i there d (inl k) = absurd (false_true k.raised)
   where
     false_true : false ≡ true → ⊥
     false_true e = cc
 lacks_one was mid e raises n needs i there d (inr k) =
-    inr (record { at = i; need = k.need; there = there ∙ ap (λ (m : Need). Some m) (only_one n k.need k.at k.there); spent = ap (λ (p : PoolId). at_end_for p k.need.kind k.need.name k.need.bytes d) (sym e) ∙ k.spent })
+    inr (record { at = i; need = k.need; there = there ∙ ap (λ (m : Need). Some m) (only_one n k.need k.at k.there); spent = sym (at_end_same (homes_of mid) (homes_of was) e k.need.kind k.need.name k.need.bytes d) ∙ k.spent })
 
-stops_at : (was mid : JournalsState) → mid.home ≡ was.home → (raises : Bool) (n : Need) (needs : List Need) (i : ℕ) → slice_get needs i ≡ Some n → (a b c : Content) → Changes was mid a b → StopsInOne mid false (n ∷ []) b c → StopsInOne was raises needs a c
+stops_at : (was mid : JournalsState) → SameHomes (homes_of mid) (homes_of was) → (raises : Bool) (n : Need) (needs : List Need) (i : ℕ) → slice_get needs i ≡ Some n → (a b c : Content) → Changes was mid a b → StopsInOne mid false (n ∷ []) b c → StopsInOne was raises needs a c
 stops_at was mid e raises n needs i there a b c h k = record {
   arrives = Arrives-then IsStoreStep a b c h.arrives k.arrives;
   meets = λ u w. lacks_one was mid e raises n needs i there c.now.disk
@@ -189,7 +194,7 @@ stops_at was mid e raises n needs i there a b c h k = record {
 }
 
 -- one of the batches, at its place
-pub stops_from : (was mid : JournalsState) → mid.home ≡ was.home → (raises : Bool) (n : Need) (needs : List Need) (i : ℕ) → slice_get needs i ≡ Some n → (a b c : Option Content) → Tells (Changes was mid) a b → Tells (StopsInOne mid false (n ∷ [])) b c
+pub stops_from : (was mid : JournalsState) → SameHomes (homes_of mid) (homes_of was) → (raises : Bool) (n : Need) (needs : List Need) (i : ℕ) → slice_get needs i ≡ Some n → (a b c : Option Content) → Tells (Changes was mid) a b → Tells (StopsInOne mid false (n ∷ [])) b c
     → Tells (StopsInOne was raises needs) a c
 stops_from was mid e raises n needs i there a b c h k = Tells-then (Changes was mid) (StopsInOne mid false (n ∷ [])) (StopsInOne was raises needs) a b c h k (stops_at was mid e raises n needs i there)
 

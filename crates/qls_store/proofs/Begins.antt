@@ -16,7 +16,7 @@ use Rattle.qls_pool.specs.Files.{OnDisk}
 use Rattle.qls_queue.specs.Records.{IsXid}
 use Rattle.qls_journals.specs.declared.cause.Cause.TheVariants.{Memory}
 use Rattle.qls_journals.specs.Places.{StandsAt, WouldStandAt}
-use Rattle.qls_store.specs.Stores.{StoreState, TransactionState, state_of, home_of, IsStore, Fits}
+use Rattle.qls_store.specs.Stores.{StoreState, TransactionState, state_of, IsStore, Fits}
 use Rattle.qls_store.specs.Homes.{homes_of, is_accepted}
 use Rattle.qls_store.specs.Table.{named, phase_in, begun, prepared_xids}
 use Rattle.qls_store.proofs.Keeping.{store_begun}
@@ -73,7 +73,7 @@ module _ {X Y : Type 0} (tell : X → Option Content) (faults : X → ℕ) (draw
         let f = found_by x s.transactions there in
         let refused : step (state_of s) (command.Begin x) ≡ (state_of s, Refused refusal.Exists) = begin_step (state_of s) x (Some (entry_of f.0)) (xid_held x s.transactions ∙ ap (option_map entry_of) f.1) in
         refuses tell faults draw counts s (command.Begin x) refusal.Exists h refused refl
-        (λ d. no_end_refused (home_of s) (state_of s) (command.Begin x) d (accepted_by s (command.Begin x) (state_of s) (Refused refusal.Exists) refused) refl (begin_makes x)) a y fits
+        (λ d. no_end_refused (homes_of s) (state_of s) (command.Begin x) d (accepted_by s (command.Begin x) (state_of s) (Refused refusal.Exists) refused) refl (begin_makes x)) a y fits
 
     begin_stepped : phase_in x s.transactions ≡ None → (state_of (record { journals = s.journals; transactions = begun x s.transactions }), Done) ≡ step (state_of s) (command.Begin x)
     begin_stepped none =
@@ -90,7 +90,7 @@ module _ {X Y : Type 0} (tell : X → Option Content) (faults : X → ℕ) (draw
     begin_new ts is xid none fits =
         subst (λ us. Runs tell faults draw counts s (command.Begin x) a a y y (Ok (record { journals = s.journals; transactions = us }, Done))) (sym is)
         (calm tell faults draw counts s (begun x s.transactions) (command.Begin x) Done (begin_store none xid) (begin_stepped none) refl
-        (homes_same (state_of s) (command.Begin x) (homes_of s) refl) (λ e. absurd (differ e)) (λ d. no_end_unneeded (home_of s) (state_of s) (command.Begin x) d refl refl (begin_makes x)) a y fits)
+        (homes_same (state_of s) (command.Begin x) (homes_of s) refl) (λ e. absurd (differ e)) (λ d. no_end_unneeded (homes_of s) (state_of s) (command.Begin x) d refl refl (begin_makes x)) a y fits)
 
     pub begin_wants : phase_in x s.transactions ≡ None → Runs tell faults draw counts s (command.Begin x) a a y y (Err Memory)
     begin_wants none = calm_wants tell faults draw counts s (command.Begin x) (ap (λ (p : MachineState × Reply). is_accepted p.1) (sym (begin_stepped none))) (homes_same (state_of s) (command.Begin x) (homes_of s) refl) a y
@@ -103,7 +103,7 @@ module _ {X Y : Type 0} (tell : X → Option Content) (faults : X → ℕ) (draw
   pub doubt_told : (xids : List (List ℕ)) → xids ≡ prepared_xids s.transactions → IfSome (tell a) (OnDisk (Fits s)) → Runs tell faults draw counts s command.Doubt a a y y (Ok (s, Doubts xids))
   doubt_told xids is fits =
       calm tell faults draw counts s s.transactions command.Doubt (Doubts xids) h (doubt_stepped xids is) refl (homes_same (state_of s) command.Doubt (homes_of s) refl) (λ e. absurd (differ e))
-      (λ d. no_end_unneeded (home_of s) (state_of s) command.Doubt d refl refl doubt_makes) a y fits
+      (λ d. no_end_unneeded (homes_of s) (state_of s) command.Doubt d refl refl doubt_makes) a y fits
 
   pub doubt_wants : Runs tell faults draw counts s command.Doubt a a y y (Err Memory)
   doubt_wants = calm_wants tell faults draw counts s command.Doubt refl (homes_same (state_of s) command.Doubt (homes_of s) refl) a y
@@ -115,7 +115,7 @@ module _ {X Y : Type 0} (tell : X → Option Content) (faults : X → ℕ) (draw
     list_missing w fits =
         let refused : step (state_of s) (command.List name) ≡ (state_of s, Refused refusal.Queue) = list_step (state_of s) name None (named_by name s.journals None w.none) in
         refuses tell faults draw counts s (command.List name) refusal.Queue h refused refl
-        (λ d. no_end_refused (home_of s) (state_of s) (command.List name) d (accepted_by s (command.List name) (state_of s) (Refused refusal.Queue) refused) refl (list_makes name)) a y fits
+        (λ d. no_end_refused (homes_of s) (state_of s) (command.List name) d (accepted_by s (command.List name) (state_of s) (Refused refusal.Queue) refused) refl (list_makes name)) a y fits
 
     list_stepped : (w : StandsAt s.journals.queues name at) → step (state_of s) (command.List name) ≡ (state_of s, Messages w.queue.queue.messages)
     list_stepped w = list_step (state_of s) name (Some w.queue.queue) (named_by name s.journals (Some w.queue) w.held)
@@ -123,7 +123,7 @@ module _ {X Y : Type 0} (tell : X → Option Content) (faults : X → ℕ) (draw
     pub list_told : (w : StandsAt s.journals.queues name at) (ms : List Message) → ms ≡ w.queue.queue.messages → IfSome (tell a) (OnDisk (Fits s)) → Runs tell faults draw counts s (command.List name) a a y y (Ok (s, Messages ms))
     list_told w ms is fits =
         calm tell faults draw counts s s.transactions (command.List name) (Messages ms) h (ap (λ ns. (state_of s, Messages ns)) is ∙ sym (list_stepped w)) refl (homes_same (state_of s) (command.List name) (homes_of s) refl) (λ e. absurd (differ e))
-        (λ d. no_end_unneeded (home_of s) (state_of s) (command.List name) d refl refl (list_makes name)) a y fits
+        (λ d. no_end_unneeded (homes_of s) (state_of s) (command.List name) d refl refl (list_makes name)) a y fits
 
     pub list_wants : StandsAt s.journals.queues name at → Runs tell faults draw counts s (command.List name) a a y y (Err Memory)
     list_wants w = calm_wants tell faults draw counts s (command.List name) (ap (λ (p : MachineState × Reply). is_accepted p.1) (list_stepped w)) (homes_same (state_of s) (command.List name) (homes_of s) refl) a y

@@ -4,7 +4,8 @@ use Rattle.std.specs.List.{slice_get}
 use Rattle.std.proofs.lemmas.Option.{slice_get_read}
 use Rattle.qls_model.specs.Machine.{change_queue}
 use Rattle.qls_model.specs.declared.machine.QueueState.{QueueState}
-use Rattle.qls_site.specs.Content.{Content, Tells}
+use Rattle.qls_site.specs.Content.{Content, Tells, moments_since}
+use Rattle.qls_meaning.specs.History.{AllUnmarked}
 use Rattle.qls_decide.specs.declared.End.{End}
 use Rattle.qls_pool.specs.Files.{Carries}
 use Rattle.qls_pool.specs.Moments.{Passes}
@@ -70,7 +71,7 @@ later_there names i n ends qs rs h e a now = subst (AreNamed (drop (i + 1) names
 -- a later call stopped
 pub stops_here : (was mid : JournalsState) → SameHomes (homes_of mid) (homes_of was) → (names : List (List ℕ)) (i : ℕ) (n : List ℕ) (a b c : Option Content) → i < length names → n ≡ get_or names i n → Tells (Changes was mid) a b
     → Tells (StopsInOne mid false (end_need n ∷ [])) b c → Tells (StopsInOne was false (map end_need names)) a c
-stops_here was mid e names i n a b c h is k s = stops_from was mid e.default false (end_need n) (map end_need names) i (get_map end_need names i n (get_at names i n h is)) a b c k s
+stops_here was mid e names i n a b c h is k s = stops_from was mid e false (end_need n) (map end_need names) i (get_map end_need names i n (get_at names i n h is)) a b c k s
 
 first_had : (was : JournalsState) (names : List (List ℕ)) (n : List ℕ) (a b : Option Content) → 0 < length names → n ≡ get_or names 0 n → Tells (HadFirst was false (end_need n ∷ [])) a b → Tells (HadFirst was false (map end_need names)) a b
 first_had was [] n a b h e k = absurd (omega (arith, h))
@@ -90,8 +91,9 @@ all_had was (n ∷ names) i a b h p k = k (omega (arith, h))
 -- ---- the list
 
 clean_then : (was mid s : JournalsState) (a b c : Content) → Changes was mid a b → Passes IsStoreStep b c → BecomesClean mid s b c → BecomesClean was s a c
-clean_then was mid s a b c h p k = λ u w.
-    k (unmarked_rest IsStoreStep IsStoreStep a b c h.arrives p u) (h.whole (unmarked_front IsStoreStep IsStoreStep a b c (Passes-of IsStoreStep a b h.arrives) p u) w)
+clean_then was mid s a b c h p k = λ u w q.
+    let front : AllUnmarked a.now (moments_since a b) = unmarked_front IsStoreStep IsStoreStep a b c (Passes-of IsStoreStep a b h.arrives) p u in
+    k (unmarked_rest IsStoreStep IsStoreStep a b c h.arrives p u) (h.whole front w) (h.alive front w q)
 
 pub told_clean : (was mid s : JournalsState) (a b c : Option Content) → Tells (Changes was mid) a b → Tells (Passes IsStoreStep) b c → Tells (BecomesClean mid s) b c → Tells (BecomesClean was s) a c
 told_clean was mid s None None None h p k = tt

@@ -23,8 +23,8 @@ use Rattle.qls_prepared.specs.Lists.{rid_of as rid_of_list}
 use Rattle.qls_journals.specs.declared.cause.Cause.{Cause}
 use Rattle.qls_journals.specs.declared.cause.Cause.TheVariants.{Memory, Spent}
 use Rattle.qls_journals.specs.Ends.{at_end_for}
-use Rattle.qls_journals.specs.State.{JournalsState, AreJournals, queues_of}
-use Rattle.qls_store.specs.Stores.{StoreState, TransactionState, state_of, home_of, rid_of, touched, IsStore, Fits}
+use Rattle.qls_journals.specs.State.{JournalsState, AreJournals, AreReleased, queues_of}
+use Rattle.qls_store.specs.Stores.{StoreState, TransactionState, state_of, rid_of, touched, IsStore, Fits}
 use Rattle.qls_store.specs.Homes.{homes_of, is_accepted}
 use Rattle.qls_store.specs.Ends.{Need, NeedsFirst, NeedsRid, NeedsRoom, MeetsAtOnce, needs_of, abort_needs, all_needs, end_need, raises_rid, is_open_by, StopsAtEnd}
 use Rattle.qls_store.specs.Table.{named, phase_in, queues_in, queues_by, without}
@@ -129,14 +129,14 @@ missing_raises S false x e = refl
 
 module _ (s : StoreState) (c : Command) (raises : Bool) (needs : List Need) (raised : raises_rid (state_of s) c ≡ raises) (needed : needs_of (state_of s) c ≡ needs) (accepted : is_accepted (step (state_of s) c).1 ≡ true)
     (not_queue : (name : List ℕ) (home : Option PoolId) → c ≡ command.Queue name home → ⊥) where
-  first_lacks : (ns : List Need) (n : Need) (d : Disk) → slice_get ns 0 ≡ Some n → at_end_for (home_of s) n.kind n.name n.bytes d ≡ true → LacksFirst (home_of s) ns d
+  first_lacks : (ns : List Need) (n : Need) (d : Disk) → slice_get ns 0 ≡ Some n → at_end_for (homes_of s) n.kind n.name n.bytes d ≡ true → LacksFirst (homes_of s) ns d
   first_lacks [] n d e i = absurd (cc)
-  first_lacks (m ∷ ns) n d e i = ap (λ (k : Need). at_end_for (home_of s) k.kind k.name k.bytes d) (same e) ∙ i
+  first_lacks (m ∷ ns) n d e i = ap (λ (k : Need). at_end_for (homes_of s) k.kind k.name k.bytes d) (same e) ∙ i
     where
       same : Some m ≡ Some n → m ≡ n
       same e = cc
 
-  meets_lacks : (d : Disk) → MeetsAtOnce (home_of s) (state_of s) c d → NeedsOneRid raises d ⊎ LacksFirst (home_of s) needs d
+  meets_lacks : (d : Disk) → MeetsAtOnce (homes_of s) (state_of s) c d → NeedsOneRid raises d ⊎ LacksFirst (homes_of s) needs d
   meets_lacks d (inl n) = absurd (not_queue n.name n.home n.makes)
   meets_lacks d (inr (inl n)) = inl (record { raised = sym raised ∙ n.raises; spent = n.spent })
   meets_lacks d (inr (inr n)) = inr (first_lacks needs n.need d (ap (λ ns. slice_get ns 0) (sym needed) ∙ n.there) n.spent)
@@ -144,7 +144,7 @@ module _ (s : StoreState) (c : Command) (raises : Bool) (needs : List Need) (rai
   pub had_so : (a b : Option Content) → Tells (CallsHadFirst s.journals raises needs) a b → Tells (HadFirst s c) a b
   had_so a b h = Tells-weaken (CallsHadFirst s.journals raises needs) (HadFirst s c) a b h (λ u v k. λ clean meets. k (whole_of s.journals u.now.disk clean) (meets_lacks u.now.disk meets))
 
-  lacks_meets : (d : Disk) → NeedsOneRid raises d ⊎ NeedsOne (home_of s) needs d → Rattle.qls_store.specs.Ends.MeetsItsEnd (home_of s) (state_of s) c d
+  lacks_meets : (d : Disk) → NeedsOneRid raises d ⊎ NeedsOne (homes_of s) needs d → Rattle.qls_store.specs.Ends.MeetsItsEnd (homes_of s) (state_of s) c d
   lacks_meets d (inl n) = inr (inl (record { raises = raised ∙ n.raised; spent = n.spent }))
   lacks_meets d (inr n) = inr (inr (n.at, record { need = n.need; accepted = accepted; there = ap (λ ns. slice_get ns n.at) needed ∙ n.there; spent = n.spent }))
 
@@ -169,7 +169,7 @@ module _ {X Y : Type 0} (tell : X → Option Content) (faults : X → ℕ) (draw
       let missing : xid_named x (state_of s).xids ≡ None = xid_held x s.transactions ∙ ap (option_map entry_in) (missing_phase x s.transactions none) in
       let refused : step (state_of s) (ending commit x) ≡ (state_of s, Refused refusal.Xid) = end_missing (state_of s) commit x missing in
       refuses tell faults draw counts s (ending commit x) refusal.Xid h refused (missing_raises (state_of s) commit x missing)
-      (λ d. no_end_refused (home_of s) (state_of s) (ending commit x) d (accepted_by s (ending commit x) (state_of s) (Refused refusal.Xid) refused) (missing_raises (state_of s) commit x missing) (not_made commit x)) a y fits
+      (λ d. no_end_refused (homes_of s) (state_of s) (ending commit x) d (accepted_by s (ending commit x) (state_of s) (Refused refusal.Xid) refused) (missing_raises (state_of s) commit x missing) (not_made commit x)) a y fits
 
   module _ (p : Phase) (there : phase_in x s.transactions ≡ Some p) where
     found : (t : TransactionState) × (named x s.transactions ≡ Some t) × (t.phase ≡ p)
@@ -217,17 +217,17 @@ module _ {X Y : Type 0} (tell : X → Option Content) (faults : X → ℕ) (draw
           subst (λ us. Runs tell faults draw counts s (ending commit x) a b u v (Ok (record { journals = j; transactions = us }, Done))) (sym is)
           (done tell faults draw counts s (ending commit x) (homes_of s) a b u v (ended_store s x j) Done
           (record { told = w.told; drawn = w.drawn; leaves = w.leaves; writes = w.writes; pools = w.pools; sites_kept = w.causes.sites_kept; draws_kept = w.causes.draws_kept }) refl
-          steps (store_ended s h x commit j all entries opened (sound_after (state_of s) (state_of (ended_store s x j)) (ending commit x) Done h.sound steps))
+          steps (store_ended s h x commit j all entries opened (w.released h.released) (sound_after (state_of s) (state_of (ended_store s x j)) (ending commit x) Done h.sound steps))
           (rid ∙ ap (λ b. cond b (rid_of s + 1) (rid_of s)) (sym raised)) clean
           (had_so s (ending commit x) (raises_by commit p) (needs_by commit names p) raised needed accepts (not_made commit x) (tell a) (tell b) had) (homes_stay s commit x) w.homes)
 
       pub end_store : (j : JournalsState) (ts : List TransactionState) → ts ≡ without x s.transactions → queues_of j ≡ ended_in names (record { xid = x; commit = commit } ∷ []) (queues_of s.journals)
-          → j.list.entries ≡ without_entry x s.journals.list.entries → AreJournals j → IsStore (record { journals = j; transactions = ts })
-      end_store j ts is queues entries opened =
+          → j.list.entries ≡ without_entry x s.journals.list.entries → AreJournals j → AreReleased j.queues → IsStore (record { journals = j; transactions = ts })
+      end_store j ts is queues entries opened freed =
           let all = all_ended s h x commit found.0 found.1 names named_so (queues_of j) queues in
           let steps : (state_of (ended_store s x j), Done) ≡ step (state_of s) (ending commit x) = (λ i. (state_ended s x commit j all i, Done)) ∙ sym stepped in
           subst (λ us. IsStore (record { journals = j; transactions = us })) (sym is)
-          (store_ended s h x commit j all entries opened (sound_after (state_of s) (state_of (ended_store s x j)) (ending commit x) Done h.sound steps))
+          (store_ended s h x commit j all entries opened freed (sound_after (state_of s) (state_of (ended_store s x j)) (ending commit x) Done h.sound steps))
 
 -- the record id after a decision in the list
 pub decided_rid : (commit : Bool) (p : Phase) → (commit ≡ false → p ≡ phase.Prepared) → (m n : ℕ) → n ≡ cond (is_prepared p) m (m + 1) → n ≡ cond (raises_by commit p) (m + 1) m

@@ -12,12 +12,12 @@ use Rattle.qls_decide.specs.declared.ListState.TheVariants.{Prepared}
 use Rattle.qls_decide.specs.Entries.{entry_of, state_of as state_in, without_entry}
 use Rattle.qls_replay.specs.Ops.{verdict_if}
 use Rattle.qls_queue.specs.Records.{IsXid}
-use Rattle.qls_journals.specs.State.{JournalsState, AreJournals, queues_of}
+use Rattle.qls_journals.specs.State.{JournalsState, AreJournals, AreReleased, queues_of}
 use Rattle.qls_store.specs.Stores.{StoreState, TransactionState, XidsRise, IsStore, IsKnown, xids_of, state_of, touched}
 use Rattle.qls_store.specs.Table.{named, without, prepared_xids}
 use Rattle.qls_store.specs.Calls.{state_by}
 use Rattle.qls_store.proofs.Keys.{all_filter}
-use Rattle.qls_store.proofs.Settling.{has_xid}
+use Rattle.qls_store.proofs.MeansSettled.{has_xid}
 use Rattle.qls_store.proofs.Tables.{xids_without, open_unlisted}
 use Rattle.qls_store.proofs.Ended.{ends, touched_still, known_ended}
 
@@ -136,7 +136,7 @@ ended_store s x j = record { journals = j; transactions = without x s.transactio
 pub state_ended : (s : StoreState) (x : List ℕ) (commit : Bool) (j : JournalsState) → queues_of j ≡ map (ends x commit) (queues_of s.journals) → state_of (ended_store s x j) ≡ ended x (verdict_if commit) (state_of s)
 state_ended s x commit j queues = λ i. record { queues = queues i; xids = xids_without x s.transactions i }
 
-module _ (s : StoreState) (h : IsStore s) (x : List ℕ) (commit : Bool) (j : JournalsState) (queues : queues_of j ≡ map (ends x commit) (queues_of s.journals)) (entries : j.list.entries ≡ without_entry x s.journals.list.entries) (opened : AreJournals j)
+module _ (s : StoreState) (h : IsStore s) (x : List ℕ) (commit : Bool) (j : JournalsState) (queues : queues_of j ≡ map (ends x commit) (queues_of s.journals)) (entries : j.list.entries ≡ without_entry x s.journals.list.entries) (opened : AreJournals j) (freed : AreReleased j.queues)
     (sound : IsSound (queues_of j) (xids_of (without x s.transactions))) where
   apart_of : (u : TransactionState) → not (same u.xid x) ≡ true → same u.xid x ≡ false
   apart_of u e = by (same u.xid x) e
@@ -148,6 +148,7 @@ module _ (s : StoreState) (h : IsStore s) (x : List ℕ) (commit : Bool) (j : Jo
   pub store_ended : IsStore (ended_store s x j)
   store_ended = record {
     journals = opened;
+    released = freed;
     sound = sound;
     rising = rise_without x s.transactions h.rising;
     xids = all_filter (λ t. IsXid t.xid) (λ t. not (same t.xid x)) s.transactions h.xids;

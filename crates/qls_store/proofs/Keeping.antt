@@ -14,7 +14,7 @@ use Rattle.qls_replay.specs.Ops.{is_moved}
 use Rattle.qls_queue.specs.Answers.{is_pending}
 use Rattle.qls_queue.specs.Live.{LiveState}
 use Rattle.qls_queue.specs.Records.{IsXid}
-use Rattle.qls_journals.specs.State.{JournalsState, AreJournals, NamesRise, names_of, queues_of}
+use Rattle.qls_journals.specs.State.{JournalsState, AreJournals, AreReleased, NamesRise, names_of, queues_of}
 use Rattle.qls_store.specs.Stores.{StoreState, TransactionState, IsStore, XidsRise, xids_of, touched, IsKnown}
 use Rattle.qls_store.specs.Table.{Rises, named, change, begun, with_name, with_queue, touched_by, prepared, prepared_in, prepared_xids}
 use Rattle.qls_store.proofs.Keys.{all_weaken, all_filter, rises_filter}
@@ -93,9 +93,10 @@ module _ (s : StoreState) (h : IsStore s) (name : List ℕ) (f : QueueState → 
   xids_after (Some x) = all_change (λ t. IsXid t.xid) x (with_queue name) s.transactions (λ t is e. e) h.xids
 
   pub store_changed : (xid : Option (List ℕ)) → (f q).name ≡ q.name → ((x : List ℕ) → is_pending x (f q) ≡ (is_pending x q || touches xid x)) → (KnownIn (xids_of s.transactions) q → KnownIn (xids_of s.transactions) (f q))
-      → j.list ≡ s.journals.list → AreJournals j → IsSound (queues_of j) (xids_of (touched_by xid name s.transactions)) → IsStore (record { journals = j; transactions = touched_by xid name s.transactions })
-  store_changed xid keeps pends known list opened sound = record {
+      → j.list ≡ s.journals.list → AreJournals j → AreReleased j.queues → IsSound (queues_of j) (xids_of (touched_by xid name s.transactions)) → IsStore (record { journals = j; transactions = touched_by xid name s.transactions })
+  store_changed xid keeps pends known list opened freed sound = record {
     journals = opened;
+    released = freed;
     sound = sound;
     rising = rising_after xid;
     xids = xids_after xid;
@@ -110,10 +111,11 @@ module _ (s : StoreState) (h : IsStore s) (name : List ℕ) (f : QueueState → 
 
 -- ---- a queue comes, or goes
 
-module _ (s : StoreState) (h : IsStore s) (name : List ℕ) (j : JournalsState) (list : j.list ≡ s.journals.list) (opened : AreJournals j) (sound : IsSound (queues_of j) (xids_of s.transactions)) where
+module _ (s : StoreState) (h : IsStore s) (name : List ℕ) (j : JournalsState) (list : j.list ≡ s.journals.list) (opened : AreJournals j) (freed : AreReleased j.queues) (sound : IsSound (queues_of j) (xids_of s.transactions)) where
   with_same_table : ((x : List ℕ) → touched x (queues_of j) ≡ touched x (queues_of s.journals)) → AllByRecursion (KnownIn (xids_of s.transactions)) (queues_of j) → IsStore (record { journals = j; transactions = s.transactions })
   with_same_table stays known = record {
     journals = opened;
+    released = freed;
     sound = sound;
     rising = h.rising;
     xids = h.xids;
@@ -149,6 +151,7 @@ store_begun s h x is none sound =
     touched_none x (queues_of s.journals) (all_weaken (KnownIn (xids_of s.transactions)) (λ q. is_pending x q ≡ false) (λ q k. none_pending (xids_of s.transactions) x q missing k) (queues_of s.journals) h.known) in
     record {
       journals = h.journals;
+      released = h.released;
       sound = sound;
       rising = rise_placed new s.transactions none h.rising;
       xids = all_placed (λ t. IsXid t.xid) new s.transactions is h.xids;
@@ -162,9 +165,10 @@ store_begun s h x is none sound =
 -- ---- a transaction is prepared
 
 pub store_prepared : (s : StoreState) → IsStore s → (x : List ℕ) (t : TransactionState) → named x s.transactions ≡ Some t → is_prepared t.phase ≡ false → (j : JournalsState) → queues_of j ≡ queues_of s.journals
-    → (e : ListEntry) → e.xid ≡ x → e.state ≡ Prepared → j.list.entries ≡ with_entry e s.journals.list.entries → AreJournals j → IsSound (queues_of j) (xids_of (prepared_in x s.transactions)) → IsStore (record { journals = j; transactions = prepared_in x s.transactions })
-store_prepared s h x t found unprepared j queues e named_so state entries opened sound = record {
+    → (e : ListEntry) → e.xid ≡ x → e.state ≡ Prepared → j.list.entries ≡ with_entry e s.journals.list.entries → AreJournals j → AreReleased j.queues → IsSound (queues_of j) (xids_of (prepared_in x s.transactions)) → IsStore (record { journals = j; transactions = prepared_in x s.transactions })
+store_prepared s h x t found unprepared j queues e named_so state entries opened freed sound = record {
   journals = opened;
+  released = freed;
   sound = sound;
   rising = rise_change x prepared (λ u. refl) s.transactions h.rising;
   xids = all_change (λ u. IsXid u.xid) x prepared s.transactions (λ u is k. k) h.xids;

@@ -13,7 +13,7 @@ pub mod Makes
 pub mod Puts
 pub mod Prepares
 pub mod Together
-pub mod Settling
+pub mod MeansSettled
 pub mod Batches
 pub mod Entries
 pub mod Named
@@ -24,3 +24,16 @@ pub mod EndRuns
 pub mod Aborted
 pub mod Deciding
 pub mod States
+pub mod SettledQueue
+pub mod SettledList
+pub mod SettledPlan
+pub mod SettledQueues
+pub mod SettledCalls
+pub mod DoubtTable
+pub mod OpeningLooks
+pub mod OpeningSite
+pub mod OpeningBegins
+pub mod OpeningThen
+pub mod OpeningStore
+pub mod OpeningAll
+pub mod Tested

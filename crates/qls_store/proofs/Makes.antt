@@ -1,5 +1,5 @@
 -- A queue is made, and a queue is dropped.
-use Rattle.std.proofs.Common.{◌≡◌, inl, inr, ℕ, Bool, true, false, not, ◌&&◌, cond, List, [], ◌∷◌, Option, Some, None, unwrap_or, Ok, Err, IfSome, IsTrue, refl, sym, ap, subst, ◌∙◌}
+use Rattle.std.proofs.Common.{◌≡◌, inl, inr, ℕ, zero, suc, Bool, true, false, not, ◌&&◌, cond, List, [], ◌∷◌, Option, Some, None, unwrap_or, Ok, Err, IfSome, IsTrue, refl, sym, ap, subst, ◌∙◌}
 use Rattle.std.specs.List.{slice_get}
 use Rattle.std.proofs.lemmas.Bool.{and_parts}
 use Rattle.qls_model.specs.Limits.{is_partition, is_kib, is_queue_name}
@@ -23,10 +23,11 @@ use Rattle.qls_prepared.specs.Lists.{rid_of as rid_of_list}
 use Rattle.qls_journals.specs.declared.cause.Cause.{Cause}
 use Rattle.qls_journals.specs.declared.cause.Cause.TheVariants.{Spent}
 use Rattle.qls_journals.specs.Ends.{NewQueueStops, HadNewQueue}
+use Rattle.qls_queue.specs.Live.{LiveState}
 use Rattle.qls_journals.specs.Homes.{SameHomes, with_home, homes_of as homes_of_journals}
 use Rattle.qls_journals.specs.Moments.{IsStoreStep, Changes}
 use Rattle.qls_journals.specs.Places.{StandsAt, WouldStandAt}
-use Rattle.qls_journals.specs.State.{JournalsState, AreJournals, IsListAlive, queues_of}
+use Rattle.qls_journals.specs.State.{JournalsState, AreJournals, AreReleased, IsReleased, IsListAlive, queues_of}
 use Rattle.qls_store.specs.Stores.{StoreState, state_of, home_of, IsStore, Fits}
 use Rattle.qls_store.specs.Homes.{homes_of, pool_or, is_accepted}
 use Rattle.qls_store.specs.Ends.{MeetsAtOnce, StopsAtEnd}
@@ -68,6 +69,11 @@ unturn false e = absurd (not_both e)
 pub at_place : {A : Type 0} (P : A → Type 0) (qs : List A) (at : ℕ) (q : A) → slice_get qs at ≡ Some q → IfSome (slice_get qs at) P → P q
 at_place P qs at q e h = subst (λ o. IfSome o P) e h
 
+pub one_released : (qs : List LiveState) (at : ℕ) → AreReleased qs → IfSome (slice_get qs at) IsReleased
+one_released [] at h = tt
+one_released (q ∷ qs) zero h = h.0
+one_released (q ∷ qs) (suc at) h = one_released qs at h.1
+
 module _ {X Y : Type 0} (tell : X → Option Content) (faults : X → ℕ) (draw : Y → Option (List ℕ)) (counts : Y → ℕ) (s : StoreState) (h : IsStore s) (a : X) (y : Y) where
   -- ---- a queue is made
 
@@ -78,7 +84,7 @@ module _ {X Y : Type 0} (tell : X → Option Content) (faults : X → ℕ) (draw
     same_home : (n : List ℕ) (o : Option PoolId) → command.Queue name home ≡ command.Queue n o → home ≡ o
     same_home n o e = cc
 
-    exists_end : (q : QueueState) → queue_named name (queues_of s.journals) ≡ Some q → is_accepted (step (state_of s) (command.Queue name home)).1 ≡ false → (d : Disk) → MeetsAtOnce (home_of s) (state_of s) (command.Queue name home) d → ⊥
+    exists_end : (q : QueueState) → queue_named name (queues_of s.journals) ≡ Some q → is_accepted (step (state_of s) (command.Queue name home)).1 ≡ false → (d : Disk) → MeetsAtOnce (homes_of s) (state_of s) (command.Queue name home) d → ⊥
     exists_end q found refused d (inl n) = none_some q (sym n.accepted ∙ ap (λ m. queue_named m (queues_of s.journals)) (sym (same_name n.name n.home n.makes)) ∙ found)
     exists_end q found refused d (inr (inl n)) = not_both (sym n.raises)
     exists_end q found refused d (inr (inr n)) = not_both (sym n.accepted ∙ refused)
@@ -118,16 +124,16 @@ module _ {X Y : Type 0} (tell : X → Option Content) (faults : X → ℕ) (draw
       queue_stepped : (j : JournalsState) → queues_of j ≡ with_queue (new_queue name) (queues_of s.journals) → (state_of (record { journals = j; transactions = s.transactions }), Done) ≡ step (state_of s) (command.Queue name home)
       queue_stepped j queues = ap (λ qs. (record (state_of s) { queues = qs }, Done)) queues ∙ sym made
 
-      pub queue_store : (j : JournalsState) → queues_of j ≡ with_queue (new_queue name) (queues_of s.journals) → j.list ≡ s.journals.list → AreJournals j → IsStore (record { journals = j; transactions = s.transactions })
-      queue_store j queues list opened =
-          store_made s h name j list opened (sound_after (state_of s) (state_of (record { journals = j; transactions = s.transactions })) (command.Queue name home) Done h.sound (queue_stepped j queues)) queues
+      pub queue_store : (j : JournalsState) → queues_of j ≡ with_queue (new_queue name) (queues_of s.journals) → j.list ≡ s.journals.list → AreJournals j → AreReleased j.queues → IsStore (record { journals = j; transactions = s.transactions })
+      queue_store j queues list opened freed =
+          store_made s h name j list opened freed (sound_after (state_of s) (state_of (record { journals = j; transactions = s.transactions })) (command.Queue name home) Done h.sound (queue_stepped j queues)) queues
 
-      pub queue_done : (j : JournalsState) → Went tell faults draw counts s.journals j (with_home name (Some pool) (homes_of s)) a b y z → queues_of j ≡ with_queue (new_queue name) (queues_of s.journals) → j.list ≡ s.journals.list → AreJournals j
+      pub queue_done : (j : JournalsState) → Went tell faults draw counts s.journals j (with_home name (Some pool) (homes_of s)) a b y z → queues_of j ≡ with_queue (new_queue name) (queues_of s.journals) → j.list ≡ s.journals.list → AreJournals j → AreReleased j.queues
           → Carries (IsListAlive s.journals) (IsListAlive j) (tell a) (tell b) → SameHomes (homes_of_journals j) (with_home name (Some pool) (homes_of s)) → Tells (HadNewQueue s.journals pool) (tell a) (tell b)
           → Runs tell faults draw counts s (command.Queue name home) a b y z (Ok (record { journals = j; transactions = s.transactions }, Done))
-      queue_done j went queues list opened alive homes had =
+      queue_done j went queues list opened freed alive homes had =
           done tell faults draw counts s (command.Queue name home) (with_home name (Some pool) (homes_of s)) a b y z (record { journals = j; transactions = s.transactions }) Done went refl
-          (queue_stepped j queues) (queue_store j queues list opened)
+          (queue_stepped j queues) (queue_store j queues list opened freed)
           (ap rid_of_list list)
           (clean_alive s.journals j (tell a) (tell b) went.told alive)
           (Tells-weaken (HadNewQueue s.journals pool) (HadFirst s (command.Queue name home)) (tell a) (tell b) had queue_had)
@@ -142,7 +148,7 @@ module _ {X Y : Type 0} (tell : X → Option Content) (faults : X → ℕ) (draw
     drop_refuses : (r : Refusal) → step (state_of s) (command.Drop name) ≡ (state_of s, Refused r) → IfSome (tell a) (OnDisk (Fits s)) → Runs tell faults draw counts s (command.Drop name) a a y y (Ok (s, Refused r))
     drop_refuses r refused fits =
         refuses tell faults draw counts s (command.Drop name) r h refused refl
-        (λ d. no_end_refused (home_of s) (state_of s) (command.Drop name) d (ap (λ (p : MachineState × Reply). is_accepted p.1) refused) refl drop_makes) a y fits
+        (λ d. no_end_refused (homes_of s) (state_of s) (command.Drop name) d (ap (λ (p : MachineState × Reply). is_accepted p.1) refused) refl drop_makes) a y fits
 
     pub drop_missing : WouldStandAt s.journals.queues name at → IfSome (tell a) (OnDisk (Fits s)) → Runs tell faults draw counts s (command.Drop name) a a y y (Ok (s, Refused refusal.Queue))
     drop_missing w fits = drop_refuses refusal.Queue (drop_step (state_of s) name None (named_by name s.journals None w.none)) fits
@@ -166,17 +172,17 @@ module _ {X Y : Type 0} (tell : X → Option Content) (faults : X → ℕ) (draw
       drop_stepped : (j : JournalsState) → queues_of j ≡ without_queue name (queues_of s.journals) → (state_of (record { journals = j; transactions = s.transactions }), Done) ≡ step (state_of s) (command.Drop name)
       drop_stepped j queues = ap (λ qs. (record (state_of s) { queues = qs }, Done)) queues ∙ sym dropped
 
-      pub drop_store : (j : JournalsState) → queues_of j ≡ without_queue name (queues_of s.journals) → j.list ≡ s.journals.list → AreJournals j → IsStore (record { journals = j; transactions = s.transactions })
-      drop_store j queues list opened =
-          store_dropped s h name j list opened (sound_after (state_of s) (state_of (record { journals = j; transactions = s.transactions })) (command.Drop name) Done h.sound (drop_stepped j queues)) w.queue.queue (named_by name s.journals (Some w.queue) w.held) (empty_is w.queue.queue.messages (unturn (is_empty w.queue.queue.messages) idle)) queues
+      pub drop_store : (j : JournalsState) → queues_of j ≡ without_queue name (queues_of s.journals) → j.list ≡ s.journals.list → AreJournals j → AreReleased j.queues → IsStore (record { journals = j; transactions = s.transactions })
+      drop_store j queues list opened freed =
+          store_dropped s h name j list opened freed (sound_after (state_of s) (state_of (record { journals = j; transactions = s.transactions })) (command.Drop name) Done h.sound (drop_stepped j queues)) w.queue.queue (named_by name s.journals (Some w.queue) w.held) (empty_is w.queue.queue.messages (unturn (is_empty w.queue.queue.messages) idle)) queues
 
-      pub drop_done : (j : JournalsState) → Went tell faults draw counts s.journals j (with_home name None (homes_of s)) a b y z → queues_of j ≡ without_queue name (queues_of s.journals) → j.list ≡ s.journals.list → AreJournals j
+      pub drop_done : (j : JournalsState) → Went tell faults draw counts s.journals j (with_home name None (homes_of s)) a b y z → queues_of j ≡ without_queue name (queues_of s.journals) → j.list ≡ s.journals.list → AreJournals j → AreReleased j.queues
           → Carries (IsListAlive s.journals) (IsListAlive j) (tell a) (tell b) → SameHomes (homes_of_journals j) (with_home name None (homes_of s)) → Runs tell faults draw counts s (command.Drop name) a b y z (Ok (record { journals = j; transactions = s.transactions }, Done))
-      drop_done j went queues list opened alive homes =
+      drop_done j went queues list opened freed alive homes =
           done tell faults draw counts s (command.Drop name) (with_home name None (homes_of s)) a b y z (record { journals = j; transactions = s.transactions }) Done went refl
           (drop_stepped j queues)
-          (drop_store j queues list opened)
+          (drop_store j queues list opened freed)
           (ap rid_of_list list)
           (clean_alive s.journals j (tell a) (tell b) went.told alive)
-          (Tells-weaken (Changes s.journals j) (HadFirst s (command.Drop name)) (tell a) (tell b) went.told (λ u v k clean. no_end_unneeded (home_of s) (state_of s) (command.Drop name) u.now.disk refl refl drop_makes))
+          (Tells-weaken (Changes s.journals j) (HadFirst s (command.Drop name)) (tell a) (tell b) went.told (λ u v k clean. no_end_unneeded (homes_of s) (state_of s) (command.Drop name) u.now.disk refl refl drop_makes))
           refl homes

@@ -11,8 +11,8 @@ use Rattle.qls_site.proofs.Told.{Tells-weaken}
 use Rattle.qls_filehdr.specs.declared.JournalKind.{JournalKind}
 use Rattle.qls_blocks.specs.Batching.{length_of, block_length}
 use Rattle.qls_journals.specs.Ends.{at_end_for, StopsAtEnd as JournalsStop, HadRoom}
-use Rattle.qls_store.specs.Stores.{StoreState, state_of, home_of}
-use Rattle.qls_store.specs.Homes.{is_accepted}
+use Rattle.qls_store.specs.Stores.{StoreState, state_of}
+use Rattle.qls_store.specs.Homes.{homes_of, is_accepted}
 use Rattle.qls_store.specs.Ends.{Need, needs_of, raises_rid, StopsAtEnd}
 use Rattle.qls_store.proofs.Running.{HadFirst, whole_of}
 
@@ -35,7 +35,7 @@ module _ (s : StoreState) (c : Command) (kind : JournalKind) (name : List ℕ) (
         need = first;
         accepted = accepted;
         there = ap (λ ns. slice_get ns 0) needs;
-        spent = subst (λ n. at_end_for (home_of s) kind name n b.now.disk ≡ true) size (h.meets u (whole_of s.journals a.now.disk clean));
+        spent = subst (λ n. at_end_for (homes_of s) kind name n b.now.disk ≡ true) size (h.meets u (whole_of s.journals a.now.disk clean));
       },
     ));
   }
@@ -49,7 +49,7 @@ module _ (s : StoreState) (c : Command) (kind : JournalKind) (name : List ℕ) (
   had_first made a b rid h clean (inr (inr n)) =
       let is : first ≡ n.need = need_is (sym (ap (λ ns. slice_get ns 0) needs) ∙ n.there) in
       h (whole_of s.journals a.now.disk clean)
-      (subst (λ k. at_end_for (home_of s) kind name k a.now.disk ≡ true) (sym size) (subst (λ (k : Need). at_end_for (home_of s) k.kind k.name k.bytes a.now.disk ≡ true) (sym is) n.spent))
+      (subst (λ k. at_end_for (homes_of s) kind name k a.now.disk ≡ true) (sym size) (subst (λ (k : Need). at_end_for (homes_of s) k.kind k.name k.bytes a.now.disk ≡ true) (sym is) n.spent))
 
   pub told_had_first : ((m : List ℕ) (home : Option PoolId) → c ≡ command.Queue m home → ⊥) → raises_rid (state_of s) c ≡ false → (a b : Option Content) → Tells (HadRoom s.journals kind name rs) a b → Tells (HadFirst s c) a b
   told_had_first made unraised a b h = Tells-weaken (HadRoom s.journals kind name rs) (HadFirst s c) a b h (λ x y k. had_first made x y (λ r m l. absurd (false_true (sym unraised ∙ r))) k)

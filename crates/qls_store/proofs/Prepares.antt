@@ -28,8 +28,8 @@ use Rattle.qls_journals.specs.declared.cause.Cause.TheVariants.{Spent}
 use Rattle.qls_journals.specs.Ends.{StopsAtEnd as JournalsStop, HadRoom}
 use Rattle.qls_journals.specs.Homes.{SameHomes, homes_of as homes_of_journals}
 use Rattle.qls_journals.specs.Moments.{IsStoreStep, BecomesClean}
-use Rattle.qls_journals.specs.State.{JournalsState, AreJournals, queues_of}
-use Rattle.qls_store.specs.Stores.{StoreState, TransactionState, state_of, home_of, rid_of, IsStore, Fits, IsClean}
+use Rattle.qls_journals.specs.State.{JournalsState, AreJournals, AreReleased, queues_of}
+use Rattle.qls_store.specs.Stores.{StoreState, TransactionState, state_of, rid_of, IsStore, Fits, IsClean}
 use Rattle.qls_store.specs.Homes.{homes_of, is_accepted}
 use Rattle.qls_store.specs.Ends.{StopsAtEnd}
 use Rattle.qls_store.specs.Table.{named, not_open_by, not_open_in, prepared_in}
@@ -73,7 +73,7 @@ module _ {X Y : Type 0} (tell : X → Option Content) (faults : X → ℕ) (draw
   prepare_closed r e fits =
       let refused : step (state_of s) prepare ≡ (state_of s, Refused r) = prepare_step (state_of s) x (Some r) (refusal_held s (Some x) ∙ e) in
       let no : is_accepted (step (state_of s) prepare).1 ≡ false = ap (λ (p : MachineState × Reply). is_accepted p.1) refused in
-      refuses tell faults draw counts s prepare r h refused no (λ d. no_end_refused (home_of s) (state_of s) prepare d no no prepare_makes) a y fits
+      refuses tell faults draw counts s prepare r h refused no (λ d. no_end_refused (homes_of s) (state_of s) prepare d no no prepare_makes) a y fits
 
   module _ (opened : not_open_in (Some x) s.transactions ≡ None) (is : IsXid x) (law : RidIs s) (fits : IfSome (tell a) (OnDisk (Fits s))) (b : X) (z : Y) where
     one : IsOpen x s.transactions
@@ -120,7 +120,7 @@ module _ {X Y : Type 0} (tell : X → Option Content) (faults : X → ℕ) (draw
       prepare_stepped = (λ i. (record { queues = queues_same i; xids = xids_prepared x s.transactions i }, Done)) ∙ sym prepare_done
 
       pub prepare_store : IsStore (record { journals = j; transactions = prepared_in x s.transactions })
-      prepare_store = store_prepared s h x one.transaction one.there one.opened j queues_same (record { xid = x; rid = rid_of_list s.journals.list + 1; state = listed.Prepared }) refl refl entries kept
+      prepare_store = store_prepared s h x one.transaction one.there one.opened j queues_same (record { xid = x; rid = rid_of_list s.journals.list + 1; state = listed.Prepared }) refl refl entries kept (subst AreReleased (sym queues) h.released)
           (sound_after (state_of s) (state_of (record { journals = j; transactions = prepared_in x s.transactions })) prepare Done h.sound prepare_stepped)
 
       pub prepare_told : (ts : List TransactionState) → ts ≡ prepared_in x s.transactions → Went tell faults draw counts s.journals j (homes_of s) a b y z → rid_of_list j.list ≡ rid_of_list s.journals.list + 1 → Tells (BecomesClean s.journals j) (tell a) (tell b)

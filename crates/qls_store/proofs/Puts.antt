@@ -24,8 +24,8 @@ use Rattle.qls_journals.specs.Answers.{put_answer, take_by, take_answer}
 use Rattle.qls_journals.specs.Ends.{StopsAtEnd as JournalsStop, HadRoom}
 use Rattle.qls_journals.specs.Homes.{SameHomes, homes_of as homes_of_journals}
 use Rattle.qls_journals.specs.Places.{StandsAt, WouldStandAt}
-use Rattle.qls_journals.specs.State.{JournalsState, AreJournals, IsListAlive, queues_of}
-use Rattle.qls_store.specs.Stores.{StoreState, TransactionState, state_of, home_of, xids_of, IsStore, Fits}
+use Rattle.qls_journals.specs.State.{JournalsState, AreJournals, AreReleased, IsListAlive, queues_of}
+use Rattle.qls_store.specs.Stores.{StoreState, TransactionState, state_of, xids_of, IsStore, Fits}
 use Rattle.qls_store.specs.Homes.{homes_of, is_accepted}
 use Rattle.qls_store.specs.Ends.{needs_of, put_needs, take_needs, raises_rid}
 use Rattle.qls_store.specs.Table.{named, not_open_by, not_open_in, touched_by}
@@ -74,7 +74,7 @@ module _ {X Y : Type 0} (tell : X → Option Content) (faults : X → ℕ) (draw
   refuses_so : (c : Command) (r : Refusal) → raises_rid (state_of s) c ≡ false → ((n : List ℕ) (o : Option PoolId) → c ≡ command.Queue n o → ⊥) → step (state_of s) c ≡ (state_of s, Refused r) → IfSome (tell a) (OnDisk (Fits s))
       → Runs tell faults draw counts s c a a y y (Ok (s, Refused r))
   refuses_so c r unraised made refused fits =
-      refuses tell faults draw counts s c r h refused unraised (λ d. no_end_refused (home_of s) (state_of s) c d (ap (λ (p : MachineState × Reply). is_accepted p.1) refused) unraised made) a y fits
+      refuses tell faults draw counts s c r h refused unraised (λ d. no_end_refused (homes_of s) (state_of s) c d (ap (λ (p : MachineState × Reply). is_accepted p.1) refused) unraised made) a y fits
 
   -- ---- a put
 
@@ -127,7 +127,7 @@ module _ {X Y : Type 0} (tell : X → Option Content) (faults : X → ℕ) (draw
           pub put_wants : (j : JournalsState) → Went tell faults draw counts s.journals j (homes_of s) a b y z → Runs tell faults draw counts s put a b y z (Err Memory)
           put_wants j went = wants tell faults draw counts s put (homes_of s) a b y z j went put_accepted refl
 
-          module _ (j : JournalsState) (queues : queues_of j ≡ change_queue w.queue.queue.name (with_message (put_message n body xid)) (queues_of s.journals)) (list : j.list ≡ s.journals.list) (kept : AreJournals j) where
+          module _ (j : JournalsState) (queues : queues_of j ≡ change_queue w.queue.queue.name (with_message (put_message n body xid)) (queues_of s.journals)) (list : j.list ≡ s.journals.list) (kept : AreJournals j) (freed : AreReleased j.queues) where
             put_queues : queues_of j ≡ change_queue name (with_message (put_message n body xid)) (queues_of s.journals)
             put_queues = queues ∙ ap (λ m. change_queue m (with_message (put_message n body xid)) (queues_of s.journals)) w.named
 
@@ -137,7 +137,7 @@ module _ {X Y : Type 0} (tell : X → Option Content) (faults : X → ℕ) (draw
             pub put_store : IsStore (record { journals = j; transactions = touched_by xid name s.transactions })
             put_store =
                 store_changed s h name (with_message (put_message n body xid)) w.queue.queue put_found j put_queues xid refl (λ x. pending_put x n body xid w.queue.queue)
-                (known_put (xids_of s.transactions) n body xid w.queue.queue (there_open xid s.transactions opened)) list kept
+                (known_put (xids_of s.transactions) n body xid w.queue.queue (there_open xid s.transactions opened)) list kept freed
                 (sound_after (state_of s) (state_of (record { journals = j; transactions = touched_by xid name s.transactions })) put (Number n) h.sound put_stepped)
 
             pub put_told : (ts : List TransactionState) → ts ≡ touched_by xid name s.transactions → Went tell faults draw counts s.journals j (homes_of s) a b y z
@@ -202,7 +202,7 @@ module _ {X Y : Type 0} (tell : X → Option Content) (faults : X → ℕ) (draw
           pub take_wants : (j : JournalsState) → Went tell faults draw counts s.journals j (homes_of s) a b y z → Runs tell faults draw counts s take a b y z (Err Memory)
           take_wants j went = wants tell faults draw counts s take (homes_of s) a b y z j went take_accepted refl
 
-          module _ (j : JournalsState) (queues : queues_of j ≡ change_queue w.queue.queue.name (taken n xid) (queues_of s.journals)) (list : j.list ≡ s.journals.list) (kept : AreJournals j) where
+          module _ (j : JournalsState) (queues : queues_of j ≡ change_queue w.queue.queue.name (taken n xid) (queues_of s.journals)) (list : j.list ≡ s.journals.list) (kept : AreJournals j) (freed : AreReleased j.queues) where
             take_queues : queues_of j ≡ change_queue name (taken n xid) (queues_of s.journals)
             take_queues = queues ∙ ap (λ m. change_queue m (taken n xid) (queues_of s.journals)) w.named
 
@@ -220,7 +220,7 @@ module _ {X Y : Type 0} (tell : X → Option Content) (faults : X → ℕ) (draw
             take_store =
                 let m = ready_of (message_at w.queue.queue.messages n) answer in
                 store_changed s h name (taken n xid) w.queue.queue take_found j take_queues xid (keeps_name xid) (λ x. pending_taken x n xid w.queue.queue m.0 rising m.1.0 m.1.1)
-                (known_taken (xids_of s.transactions) n xid w.queue.queue (there_open xid s.transactions opened)) list kept
+                (known_taken (xids_of s.transactions) n xid w.queue.queue (there_open xid s.transactions opened)) list kept freed
                 (sound_after (state_of s) (state_of (record { journals = j; transactions = touched_by xid name s.transactions })) take Done h.sound take_stepped)
 
             pub take_told : (ts : List TransactionState) → ts ≡ touched_by xid name s.transactions → Went tell faults draw counts s.journals j (homes_of s) a b y z

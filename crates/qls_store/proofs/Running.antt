@@ -22,7 +22,7 @@ use Rattle.qls_journals.specs.Answers.{is_exact, StoreCauses, SiteCauses}
 use Rattle.qls_journals.specs.Homes.{Homes, SameHomes, TakesFromHome}
 use Rattle.qls_journals.specs.Moments.{IsStoreStep, StaysWritten, Changes, BecomesClean, LeavesDead as JournalsLeaveDead}
 use Rattle.qls_journals.specs.State.{JournalsState, IsWhole, IsListAlive, IsClean as AreClean}
-use Rattle.qls_store.specs.Stores.{StoreState, TransactionState, state_of, home_of, rid_of, IsStore, Fits, IsClean}
+use Rattle.qls_store.specs.Stores.{StoreState, TransactionState, state_of, rid_of, IsStore, Fits, IsClean}
 use Rattle.qls_store.specs.Homes.{homes_of, homes_after, home_by, is_accepted}
 use Rattle.qls_store.specs.Ends.{Need, needs_of, raises_rid, MeetsAtOnce, StopsAtEnd}
 use Rattle.qls_store.specs.Steps.{RunsCommand, LeavesDead}
@@ -34,7 +34,7 @@ not_both e = cc
 -- ---- journals that are clean are whole
 
 pub whole_of : (j : JournalsState) (d : Disk) → AreClean j d → IsWhole j d
-whole_of j d clean = record { queues = clean.queues; list = clean.list.whole }
+whole_of j d clean = clean.whole
 
 -- where the files that came into use were unmarked, the journals are clean if they were
 abbrev pub StaysClean : JournalsState → JournalsState → Content → Content → Type 0
@@ -45,26 +45,25 @@ clean_alive was j None None t k = tt
 clean_alive was j None (Some b) t k = absurd t
 clean_alive was j (Some a) None t k = absurd t
 clean_alive was j (Some a) (Some b) t k = λ marked clean.
-    let whole : IsWhole j b.now.disk = t.whole marked (whole_of was a.now.disk clean) in
-    record { queues = whole.queues; list = record { whole = whole.list; alive = k clean.list.alive } }
+    record { whole = t.whole marked clean.whole; queues = t.alive marked clean.whole clean.queues; list = k clean.list }
 
 pub clean_becomes : (was j : JournalsState) (a b : Option Content) → Tells (BecomesClean was j) a b → Tells (StaysClean was j) a b
-clean_becomes was j a b t = Tells-weaken (BecomesClean was j) (StaysClean was j) a b t (λ x y h. λ marked clean. h marked (whole_of was x.now.disk clean))
+clean_becomes was j a b t = Tells-weaken (BecomesClean was j) (StaysClean was j) a b t (λ x y h. λ marked clean. h marked clean.whole clean.queues)
 
 -- there was a file and a record id for the first batch
 abbrev pub HadFirst : StoreState → Command → Content → Content → Type 0
-HadFirst was c old new = IsClean was old.now.disk → MeetsAtOnce (home_of was) (state_of was) c old.now.disk → ⊥
+HadFirst was c old new = IsClean was old.now.disk → MeetsAtOnce (homes_of was) (state_of was) c old.now.disk → ⊥
 
 -- where the machine refuses, or accepts without a batch, there is nothing that can't be had
-pub no_end_refused : (default : PoolId) (S : MachineState) (c : Command) (d : Disk) → is_accepted (step S c).1 ≡ false → raises_rid S c ≡ false → ((name : List ℕ) (home : Option PoolId) → c ≡ command.Queue name home → ⊥) → MeetsAtOnce default S c d → ⊥
-no_end_refused default S c d refused unraised made (inl n) = made n.name n.home n.makes
-no_end_refused default S c d refused unraised made (inr (inl n)) = not_both (sym n.raises ∙ unraised)
-no_end_refused default S c d refused unraised made (inr (inr n)) = not_both (sym n.accepted ∙ refused)
+pub no_end_refused : (homes : Homes) (S : MachineState) (c : Command) (d : Disk) → is_accepted (step S c).1 ≡ false → raises_rid S c ≡ false → ((name : List ℕ) (home : Option PoolId) → c ≡ command.Queue name home → ⊥) → MeetsAtOnce homes S c d → ⊥
+no_end_refused homes S c d refused unraised made (inl n) = made n.name n.home n.makes
+no_end_refused homes S c d refused unraised made (inr (inl n)) = not_both (sym n.raises ∙ unraised)
+no_end_refused homes S c d refused unraised made (inr (inr n)) = not_both (sym n.accepted ∙ refused)
 
-pub no_end_unneeded : (default : PoolId) (S : MachineState) (c : Command) (d : Disk) → needs_of S c ≡ [] → raises_rid S c ≡ false → ((name : List ℕ) (home : Option PoolId) → c ≡ command.Queue name home → ⊥) → MeetsAtOnce default S c d → ⊥
-no_end_unneeded default S c d none unraised made (inl n) = made n.name n.home n.makes
-no_end_unneeded default S c d none unraised made (inr (inl n)) = not_both (sym n.raises ∙ unraised)
-no_end_unneeded default S c d none unraised made (inr (inr n)) = differ n.need (ap (λ ns. slice_get ns 0) (sym none) ∙ n.there)
+pub no_end_unneeded : (homes : Homes) (S : MachineState) (c : Command) (d : Disk) → needs_of S c ≡ [] → raises_rid S c ≡ false → ((name : List ℕ) (home : Option PoolId) → c ≡ command.Queue name home → ⊥) → MeetsAtOnce homes S c d → ⊥
+no_end_unneeded homes S c d none unraised made (inl n) = made n.name n.home n.makes
+no_end_unneeded homes S c d none unraised made (inr (inl n)) = not_both (sym n.raises ∙ unraised)
+no_end_unneeded homes S c d none unraised made (inr (inr n)) = differ n.need (ap (λ ns. slice_get ns 0) (sym none) ∙ n.there)
   where
     differ : (n : Need) → ◌≡◌ {A = Option Need} None (Some n) → ⊥
     differ n e = cc
@@ -163,13 +162,13 @@ module _ {X Y : Type 0} (tell : X → Option Content) (faults : X → ℕ) (draw
     abbrev pub with_table : StoreState
     with_table = record { journals = was.journals; transactions = ts }
 
-    told_calm : (a : Option Content) → IfSome a (OnDisk (Fits was)) → ((d : Disk) → MeetsAtOnce (home_of was) (state_of was) c d → ⊥) → Tells (RunsCommand was c with_table) a a
+    told_calm : (a : Option Content) → IfSome a (OnDisk (Fits was)) → ((d : Disk) → MeetsAtOnce (homes_of was) (state_of was) c d → ⊥) → Tells (RunsCommand was c with_table) a a
     told_calm None fits ends = tt
     told_calm (Some a) fits ends = record { arrives = Arrives-same IsStoreStep a a refl; quiet = λ q. q; had = λ clean. ends a.now.disk; fits = fits; clean = λ marked clean. clean }
 
     -- the command is answered without a call
     pub calm : (reply : Reply) → IsStore with_table → (state_of with_table, reply) ≡ step (state_of was) c → raises_rid (state_of was) c ≡ false → homes_after (state_of was) c (homes_of was) ≡ homes_of was
-        → (is_accepted reply ≡ false → with_table ≡ was) → ((d : Disk) → MeetsAtOnce (home_of was) (state_of was) c d → ⊥) → (a : X) (y : Y) → IfSome (tell a) (OnDisk (Fits was)) → Runs was c a a y y (Ok (with_table, reply))
+        → (is_accepted reply ≡ false → with_table ≡ was) → ((d : Disk) → MeetsAtOnce (homes_of was) (state_of was) c d → ⊥) → (a : X) (y : Y) → IfSome (tell a) (OnDisk (Fits was)) → Runs was c a a y y (Ok (with_table, reply))
     calm reply store stepped unraised homes same ends a y fits = record {
       stepped = stepped;
       ended = tt;
@@ -181,7 +180,7 @@ module _ {X Y : Type 0} (tell : X → Option Content) (faults : X → ℕ) (draw
       leaves = leaves_so was (tell a) (tell a) (leaves_none was.journals (tell a));
       writes = writes_none was.journals (tell a);
       pools = pools_so (homes_of was) (homes_after (state_of was) c (homes_of was)) (tell a) (tell a) (sym homes) (pools_none (homes_of was) (tell a));
-      homes = subst (SameHomes (homes_of was)) (sym homes) (record { default = refl; queue = λ n. refl });
+      homes = subst (SameHomes (homes_of was)) (sym homes) (record { default = refl; queue = λ n. refl; list = refl });
       refused = λ e. (same e, refl, refl);
       spent = λ e. absurd (ok_no_err (with_table, reply) Spent e);
       causes = ok_causes (with_table, reply) (faults a) (faults a) (counts y) (counts y) (omega arith) (omega arith);
@@ -207,7 +206,7 @@ module _ {X Y : Type 0} (tell : X → Option Content) (faults : X → ℕ) (draw
   }
 
   -- the machine refuses: nothing changes
-  pub refuses : (was : StoreState) (c : Command) (r : Refusal) → IsStore was → step (state_of was) c ≡ (state_of was, Refused r) → raises_rid (state_of was) c ≡ false → ((d : Disk) → MeetsAtOnce (home_of was) (state_of was) c d → ⊥)
+  pub refuses : (was : StoreState) (c : Command) (r : Refusal) → IsStore was → step (state_of was) c ≡ (state_of was, Refused r) → raises_rid (state_of was) c ≡ false → ((d : Disk) → MeetsAtOnce (homes_of was) (state_of was) c d → ⊥)
       → (a : X) (y : Y) → IfSome (tell a) (OnDisk (Fits was)) → Runs was c a a y y (Ok (was, Refused r))
   refuses was c r store refused unraised ends a y fits =
       let no : is_accepted (step (state_of was) c).1 ≡ false = ap (λ (p : MachineState × Reply). is_accepted p.1) refused in

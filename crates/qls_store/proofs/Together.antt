@@ -1,7 +1,7 @@
 -- Two calls on the journals in a row: what each of them has, both together have.
 use Rattle.std.proofs.Common.{◌≡◌, ℕ, true, false, List, [], ◌∷◌, Option, Some, None, Result, Ok, Err, IfOk, IfSome, refl, sym, ap, ◌∙◌, subst, arith, append-nil}
 use Rattle.std.specs.List.{AllByRecursion}
-use Rattle.qls_site.specs.Disk.{FileState, file_of}
+use Rattle.qls_site.specs.Disk.{Disk, FileState, file_of}
 use Rattle.qls_site.specs.Content.{Moment, Content, Tells, moments_since}
 use Rattle.qls_site.proofs.Told.{Tells-then, Tells-weaken, IfSome-after}
 use Rattle.qls_filehdr.specs.declared.JournalKind.{JournalKind}
@@ -18,9 +18,9 @@ use Rattle.qls_queue.proofs.Writes.{rose_later}
 use Rattle.qls_journals.specs.declared.cause.Cause.{Cause}
 use Rattle.qls_journals.specs.declared.cause.Cause.TheVariants.{Failed, Draw, Memory}
 use Rattle.qls_journals.specs.Answers.{is_exact, StoreCauses}
-use Rattle.qls_journals.specs.Homes.{Homes, homes_of, home_by, SameHomes, IsOfHome, TakesFromHome}
+use Rattle.qls_journals.specs.Homes.{Homes, homes_of, home_by, SameHomes, TakesFrom, TakesFromHome}
 use Rattle.qls_journals.specs.Moments.{IsStoreStep, Changes, LeavesDead, AreWritten, StaysWritten}
-use Rattle.qls_journals.specs.State.{JournalsState, Fits}
+use Rattle.qls_journals.specs.State.{JournalsState, AreReleased, Fits}
 use Rattle.qls_store.specs.Calls.{Calls}
 
 -- ---- the moments
@@ -33,6 +33,9 @@ changes_then was mid s a b c h k = record {
   whole = λ u w.
       k.whole (unmarked_rest IsStoreStep IsStoreStep a b c h.arrives (Passes-of IsStoreStep b c k.arrives) u)
       (h.whole (unmarked_front IsStoreStep IsStoreStep a b c (Passes-of IsStoreStep a b h.arrives) (Passes-of IsStoreStep b c k.arrives) u) w);
+  alive = λ u w q.
+      let front : AllUnmarked a.now (moments_since a b) = unmarked_front IsStoreStep IsStoreStep a b c (Passes-of IsStoreStep a b h.arrives) (Passes-of IsStoreStep b c k.arrives) u in
+      k.alive (unmarked_rest IsStoreStep IsStoreStep a b c h.arrives (Passes-of IsStoreStep b c k.arrives) u) (h.whole front w) (h.alive front w q);
 }
 
 -- by the answer of the second one
@@ -80,35 +83,46 @@ told_written was mid r a b c h p w v =
 
 -- ---- the pools of the journals
 
-home_same : (h k : Homes) → SameHomes h k → (kind : JournalKind) (name : List ℕ) → home_by kind name h ≡ home_by kind name k
+pub home_same : (h k : Homes) → SameHomes h k → (kind : JournalKind) (name : List ℕ) → home_by kind name h ≡ home_by kind name k
 home_same h k s journal.Queue name = s.queue name
-home_same h k s journal.List name = ap (λ p. Some p) s.default
+home_same h k s journal.List name = ap (λ p. Some p) s.list
 
-of_home : (h k : Homes) → SameHomes h k → (o : Option FileState) (g : FileState) → IsOfHome h o g → IsOfHome k o g
-of_home h k s None g t = tt
-of_home h k s (Some f) g t = λ unused used.
+of_home : (h k : Homes) → SameHomes h k → (d : Disk) (o : Option FileState) (g : FileState) → TakesFrom h d o g → TakesFrom k d o g
+of_home h k s d None g t = tt
+of_home h k s d (Some f) g t = λ unused used.
     let r = t unused used in
-    (r.0, r.1, sym (home_same h k s r.0.kind r.0.name) ∙ r.2)
+    (r.0, record { legal = r.1.legal; home = sym (home_same h k s r.0.kind r.0.name) ∙ r.1.home; due = r.1.due; number = r.1.number })
 
 all_weaken : {A : Type 0} (P Q : A → Type 0) → ((x : A) → P x → Q x) → (xs : List A) → AllByRecursion P xs → AllByRecursion Q xs
 all_weaken P Q w [] h = tt
 all_weaken P Q w (x ∷ xs) h = (w x h.0, all_weaken P Q w xs h.1)
 
 takes_same : (h k : Homes) → SameHomes h k → (m n : Moment) → TakesFromHome h m n → TakesFromHome k m n
-takes_same h k s m n t = all_weaken (λ g. IsOfHome h (file_of g.id m.disk) g) (λ g. IsOfHome k (file_of g.id m.disk) g) (λ g. of_home h k s (file_of g.id m.disk) g) n.disk t
+takes_same h k s m n t = all_weaken (λ g. TakesFrom h m.disk (file_of g.id m.disk) g) (λ g. TakesFrom k m.disk (file_of g.id m.disk) g) (λ g. of_home h k s m.disk (file_of g.id m.disk) g) n.disk t
 
 pub told_homes : (h k : Homes) → SameHomes h k → (a b : Option Content) → Tells (Passes (TakesFromHome h)) a b → Tells (Passes (TakesFromHome k)) a b
 told_homes h k s a b t = Tells-weaken (Passes (TakesFromHome h)) (Passes (TakesFromHome k)) a b t (Passes-weaken (TakesFromHome h) (TakesFromHome k) (takes_same h k s))
 
 pub same_homes : (h k l : Homes) → SameHomes k h → SameHomes l k → SameHomes l h
-same_homes h k l s t = record { default = t.default ∙ s.default; queue = λ name. t.queue name ∙ s.queue name }
+same_homes h k l s t = record { default = t.default ∙ s.default; queue = λ name. t.queue name ∙ s.queue name; list = t.list ∙ s.list }
 
 pub same_home : (h : Homes) → SameHomes h h
-same_home h = record { default = refl; queue = λ name. refl }
+same_home h = record { default = refl; queue = λ name. refl; list = refl }
 
 ok_homes : (h k : Homes) (r : Result JournalsState Cause) → SameHomes k h → IfOk r (λ s. SameHomes (homes_of s) k) → IfOk r (λ s. SameHomes (homes_of s) h)
 ok_homes h k (Ok s) t u = same_homes h k (homes_of s) t u
 ok_homes h k (Err e) t u = tt
+
+-- ---- dead files that went back
+
+ok_released : (was mid : JournalsState) (r : Result JournalsState Cause) → (AreReleased was.queues → AreReleased mid.queues) → IfOk r (λ s. AreReleased mid.queues → AreReleased s.queues) → IfOk r (λ s. AreReleased was.queues → AreReleased s.queues)
+ok_released was mid (Ok s) h k = λ q. k (h q)
+ok_released was mid (Err e) h k = tt
+
+-- queues that stay
+pub same_released : (was : JournalsState) (r : Result JournalsState Cause) → IfOk r (λ s. s.queues ≡ was.queues) → IfOk r (λ s. AreReleased was.queues → AreReleased s.queues)
+same_released was (Ok s) h = λ q. subst AreReleased (sym h) q
+same_released was (Err e) h = tt
 
 -- ---- the faults
 
@@ -130,6 +144,7 @@ calls_then was mid r a b c x y z s t u d e f h k = record {
   leaves = told_leaves was mid a b c h.told (told_passes mid r b c k.told) h.leaves k.leaves;
   writes = told_written was mid r a b c h.told (told_passes mid r b c k.told) h.writes k.writes;
   homes = ok_homes (homes_of was) (homes_of mid) r h.homes k.homes;
+  released = ok_released was mid r h.released k.released;
   pools = told_passes_by (TakesFromHome (homes_of was)) IsStoreStep a b c (told_arrives was mid a b h.told) h.pools (told_homes (homes_of mid) (homes_of was) h.homes b c k.pools);
   causes = caused_then mid r s t u d e f h.causes k.causes;
 }
@@ -141,7 +156,7 @@ no_moments c = since_of (λ m n. Unit {0}) c c (Arrives-same (λ m n. Unit {0}) 
 
 fits_still : (was : JournalsState) (a : Option Content) → IfSome a (OnDisk (Fits was)) → Tells (Changes was was) a a
 fits_still was None h = tt
-fits_still was (Some c) h = record { arrives = Arrives-same IsStoreStep c c refl; quiet = λ q. q; fits = h; whole = λ u w. w }
+fits_still was (Some c) h = record { arrives = Arrives-same IsStoreStep c c refl; quiet = λ q. q; fits = h; whole = λ u w. w; alive = λ u w q. q }
 
 passes_still : (R : Moment → Moment → Type 0) (a : Option Content) → Tells (Passes R) a a
 passes_still R a = told_of R a a (told_same R a)
@@ -169,6 +184,7 @@ calls_none was a x s d h = record {
   leaves = leaves_still was a;
   writes = written_still was a;
   homes = same_home (homes_of was);
+  released = λ q. q;
   pools = passes_still (TakesFromHome (homes_of was)) a;
   causes = still_caused s d (Ok was) not_failed not_draw;
 }
@@ -187,6 +203,7 @@ calls_memory was r a x s d e = subst (λ (q : Result JournalsState Cause). Calls
   leaves = leaves_still was a;
   writes = writes_none (λ areas g. AreWritten areas g was) a;
   homes = tt;
+  released = tt;
   pools = passes_still (TakesFromHome (homes_of was)) a;
   causes = still_caused s d (Err Memory) not_failed not_draw;
 })

@@ -19,8 +19,9 @@ use Rattle.qls_pool.specs.Moments.{Arrives}
 use Rattle.qls_queue.specs.Records.{enqueue_of, dequeue_of}
 use Rattle.qls_journals.specs.Ends.{at_end_for}
 use Rattle.qls_journals.specs.Moments.{IsStoreStep}
-use Rattle.qls_store.specs.Stores.{StoreState, state_of, home_of, touched, IsClean}
-use Rattle.qls_store.specs.Homes.{pool_or, is_accepted}
+use Rattle.qls_journals.specs.Homes.{Homes}
+use Rattle.qls_store.specs.Stores.{StoreState, state_of, touched, IsClean}
+use Rattle.qls_store.specs.Homes.{homes_of, pool_or, is_accepted}
 
 -- ---- the batches of a command
 
@@ -90,19 +91,19 @@ raises_rid S (command.List name) = false
 raises_rid S command.Doubt = false
 
 -- a new queue, for which there is neither an empty file nor an id
-pub record NeedsFirst (default : PoolId) (S : MachineState) (c : Command) (d : Disk) : Type 0 where
+pub record NeedsFirst (homes : Homes) (S : MachineState) (c : Command) (d : Disk) : Type 0 where
   pub name : List ℕ
   pub home : Option PoolId
   pub makes : c ≡ command.Queue name home
   pub accepted : queue_named name S.queues ≡ None
-  pub spent : new_journal_meets_end (pool_or default home) d ≡ true
+  pub spent : new_journal_meets_end (pool_or homes.default home) d ≡ true
 
 -- a batch of an accepted command, for which there is no further file
-pub record NeedsRoom (default : PoolId) (S : MachineState) (c : Command) (at : ℕ) (d : Disk) : Type 0 where
+pub record NeedsRoom (homes : Homes) (S : MachineState) (c : Command) (at : ℕ) (d : Disk) : Type 0 where
   pub need : Need
   pub accepted : is_accepted (step S c).1 ≡ true
   pub there : slice_get (needs_of S c) at ≡ Some need
-  pub spent : at_end_for default need.kind need.name need.bytes d ≡ true
+  pub spent : at_end_for homes need.kind need.name need.bytes d ≡ true
 
 -- a record id of the list, of which the last one is given
 pub record NeedsRid (S : MachineState) (c : Command) (d : Disk) : Type 0 where
@@ -110,15 +111,15 @@ pub record NeedsRid (S : MachineState) (c : Command) (d : Disk) : Type 0 where
   pub spent : prepare_meets_end d ≡ true
 
 -- one of the batches can't be written
-abbrev pub MeetsItsEnd : PoolId → MachineState → Command → Disk → Type 0
-MeetsItsEnd default S c d = NeedsFirst default S c d ⊎ (NeedsRid S c d ⊎ ((at : ℕ) × NeedsRoom default S c at d))
+abbrev pub MeetsItsEnd : Homes → MachineState → Command → Disk → Type 0
+MeetsItsEnd homes S c d = NeedsFirst homes S c d ⊎ (NeedsRid S c d ⊎ ((at : ℕ) × NeedsRoom homes S c at d))
 
 -- the first of them can't be written
-abbrev pub MeetsAtOnce : PoolId → MachineState → Command → Disk → Type 0
-MeetsAtOnce default S c d = NeedsFirst default S c d ⊎ (NeedsRid S c d ⊎ NeedsRoom default S c 0 d)
+abbrev pub MeetsAtOnce : Homes → MachineState → Command → Disk → Type 0
+MeetsAtOnce homes S c d = NeedsFirst homes S c d ⊎ (NeedsRid S c d ⊎ NeedsRoom homes S c 0 d)
 
 -- The command stopped there, with nothing answered. Where the store was clean and the files that came into use were unmarked, it needs
 -- what can't be had on the disk as it is
 pub record StopsAtEnd (was : StoreState) (c : Command) (old new : Content) : Type 0 where
   pub arrives : Arrives IsStoreStep old new
-  pub meets : AllUnmarked old.now (moments_since old new) → IsClean was old.now.disk → MeetsItsEnd (home_of was) (state_of was) c new.now.disk
+  pub meets : AllUnmarked old.now (moments_since old new) → IsClean was old.now.disk → MeetsItsEnd (homes_of was) (state_of was) c new.now.disk

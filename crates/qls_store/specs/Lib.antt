@@ -4,3 +4,6 @@ pub mod Homes
 pub mod Ends
 pub mod Steps
 pub mod Calls
+pub mod Opening
+pub mod Settling
+pub mod Opened

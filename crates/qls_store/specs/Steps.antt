@@ -11,7 +11,8 @@ use Rattle.qls_journals.specs.declared.cause.Cause.{Cause}
 use Rattle.qls_journals.specs.Moments.{IsStoreStep, StaysQuiet}
 use Rattle.qls_store.specs.declared.store.Stepped.{Stepped}
 use Rattle.qls_store.specs.declared.store.Stepped.TheVariants.{Live, Ended}
-use Rattle.qls_store.specs.Stores.{StoreState, state_of, home_of, Fits, IsClean}
+use Rattle.qls_store.specs.Stores.{StoreState, state_of, Fits, IsClean}
+use Rattle.qls_store.specs.Homes.{homes_of}
 use Rattle.qls_store.specs.Ends.{MeetsAtOnce}
 
 -- ---- answers
@@ -28,7 +29,7 @@ stepped (Ended cause) = Err cause
 pub record RunsCommand (was : StoreState) (c : Command) (s : StoreState) (old new : Content) : Type 0 where
   pub arrives : Arrives IsStoreStep old new
   pub quiet : StaysQuiet old new
-  pub had : IsClean was old.now.disk → MeetsAtOnce (home_of was) (state_of was) c old.now.disk → ⊥
+  pub had : IsClean was old.now.disk → MeetsAtOnce (homes_of was) (state_of was) c old.now.disk → ⊥
   pub fits : Fits s new.now.disk
   pub clean : AllUnmarked old.now (moments_since old new) → IsClean was old.now.disk → IsClean s new.now.disk
 

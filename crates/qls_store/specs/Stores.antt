@@ -14,7 +14,7 @@ use Rattle.qls_decide.specs.declared.ListState.TheVariants.{Prepared}
 use Rattle.qls_queue.specs.Answers.{is_pending}
 use Rattle.qls_queue.specs.Records.{IsXid}
 use Rattle.qls_prepared.specs.Lists.{rid_of as rid_of_list}
-use Rattle.qls_journals.specs.State.{JournalsState, queues_of, AreJournals, Fits as JournalsFit, IsClean as AreClean}
+use Rattle.qls_journals.specs.State.{JournalsState, queues_of, AreJournals, AreReleased, Fits as JournalsFit, IsClean as AreClean}
 
 -- an open or prepared transaction, and the names of the queues in which a message is coming or going by it
 pub record TransactionState : Type 0 where
@@ -58,10 +58,11 @@ IsKnown xs Ready = Unit {0}
 IsKnown xs (Coming x) = (e : XidState) × (xid_named x xs ≡ Some e)
 IsKnown xs (Going x) = (e : XidState) × (xid_named x xs ≡ Some e)
 
--- The journals are open, and the machine's state is sound; each transaction has an xid within the limits and its queues, and no message one
+-- The journals are open and their dead files went back, and the machine's state is sound; each transaction has an xid within the limits and its queues, and no message one
 -- that isn't there. The list has just the transactions that are prepared, each as prepared
 pub record IsStore (s : StoreState) : Type 0 where
   pub journals : AreJournals s.journals
+  pub released : AreReleased s.journals.queues
   pub sound : IsSound (queues_of s.journals) (xids_of s.transactions)
   pub rising : XidsRise s.transactions
   pub xids : AllByRecursion (λ t. IsXid t.xid) s.transactions

@@ -15,7 +15,7 @@ use std::process::Abort;
 use std::test::Fail;
 
 /// The pool of partition 1 whose files have 8 KiB of data, two blocks.
-const HOME: PoolId = PoolId { part: 1, kib: 8 };
+pub(crate) const HOME: PoolId = PoolId { part: 1, kib: 8 };
 
 /// The pools of a site without files.
 fn open_pools<S: Site>(alloc: Global, site: &mut S) -> Result<Pool, Fail>
@@ -66,7 +66,7 @@ fn run_one<S: Site, N: Serials>(
 }
 
 /// Runs the commands.
-fn run<S: Site, N: Serials>(
+pub(crate) fn run<S: Site, N: Serials>(
     alloc: Global,
     store: Store,
     site: &mut S,
@@ -94,7 +94,7 @@ fn machine_after(alloc: Global, lines: &[&str]) -> Result<State, Fail> {
 }
 
 /// Two queues, a transaction that is open and one that is prepared, each of which has put and taken.
-const LINES: [&str; 12] = [
+pub(crate) const LINES: [&str; 12] = [
     "queue b",
     "queue a",
     "put a 01",

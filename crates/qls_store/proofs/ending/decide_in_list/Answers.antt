@@ -12,6 +12,7 @@ use Rattle.qls_store.specs.Calls.{HadFirst, StopsInOne}
 use Rattle.qls_store.proofs.Batches.{RidIs, one_phase_size, decision_size, ok_had_rid, ok_had_one, stops_rid, told_stops_one}
 use Rattle.qls_store.proofs.Entries.{entered_gone, entered_ends, decided_gone, decided_ends, the_entry, at_entry, ok_map}
 use Rattle.qls_store.proofs.Deciding.{carried_open, carried_prepared}
+use Rattle.qls_store.proofs.Together.{same_released}
 use Rattle.qls_store.proofs.ending.decide_in_list.Goals as goal
 
 pub returns-in-Open-clause-carried : goal.returns-in-Open-clause-carried
@@ -21,6 +22,18 @@ returns-in-Open-clause-carried g c =
 pub returns-in-Prepared-clause-carried : goal.returns-in-Prepared-clause-carried
 returns-in-Prepared-clause-carried g c =
     carried_prepared c.args.phase c.args.xid c.args.journals.list.entries c.args.commit c.in-Prepared.is c.requires.entry c.decide.result c.decide.ensures.entries
+
+pub returns-in-Open-clause-called : goal.returns-in-Open-clause-called
+returns-in-Open-clause-called g c = record {
+  told = c.one_phase.ensures.told;
+  drawn = c.one_phase.ensures.drawn;
+  leaves = c.one_phase.ensures.leaves;
+  writes = c.one_phase.ensures.writes;
+  homes = c.one_phase.ensures.homes;
+  released = same_released c.args.journals c.one_phase.result c.one_phase.ensures.queues;
+  pools = c.one_phase.ensures.pools;
+  causes = c.one_phase.ensures.causes;
+}
 
 pub returns-in-Open-clause-entries : goal.returns-in-Open-clause-entries
 returns-in-Open-clause-entries g c =
@@ -45,6 +58,18 @@ returns-in-Open-clause-spent g c = λ e.
     let raises : true ≡ not (is_prepared c.args.phase) = ap (λ p. not (is_prepared p)) (sym c.in-Open.is) in
     subst (λ (b : Bool). Tells (StopsInOne c.args.journals b (list_need ∷ [])) (g.S.Site.told c.args.site.now) (g.S.Site.told c.one_phase.new.site)) raises
     (stops_rid c.args.journals rs (one_phase_size (rid_of c.args.journals.list) c.args.xid c.requires.xid) law _ _ c.requires.fits (λ l. ap (λ s. g.S.Site.told s) (c.one_phase.ensures.last l).1) (c.one_phase.ensures.spent e))
+
+pub returns-in-Prepared-clause-called : goal.returns-in-Prepared-clause-called
+returns-in-Prepared-clause-called g c = record {
+  told = c.decide.ensures.told;
+  drawn = c.decide.ensures.drawn;
+  leaves = c.decide.ensures.leaves;
+  writes = c.decide.ensures.writes;
+  homes = c.decide.ensures.homes;
+  released = same_released c.args.journals c.decide.result c.decide.ensures.queues;
+  pools = c.decide.ensures.pools;
+  causes = c.decide.ensures.causes;
+}
 
 pub returns-in-Prepared-clause-entries : goal.returns-in-Prepared-clause-entries
 returns-in-Prepared-clause-entries g c = decided_gone c.args.phase c.args.xid c.args.journals.list.entries c.args.commit c.in-Prepared.is c.requires.entry c.decide.result c.decide.ensures.entries

@@ -1,5 +1,5 @@
 use Rattle.std.proofs.Common.{Ok, ap, ◌∙◌}
-use Rattle.qls_store.proofs.Settling.{settled, clean_whole}
+use Rattle.qls_store.proofs.MeansSettled.{settled, clean_whole}
 use Rattle.qls_store.proofs.laws.clean_store_is_its_meaning.Goals as goal
 
 pub returns-clause-meaning : goal.returns-clause-meaning

@@ -1,4 +1,4 @@
-use Rattle.qls_store.proofs.Settling.{clean_whole}
+use Rattle.qls_store.proofs.MeansSettled.{clean_whole}
 use Rattle.qls_store.proofs.laws.what_a_store_reads_was_written.Goals as goal
 
 pub returns : goal.returns

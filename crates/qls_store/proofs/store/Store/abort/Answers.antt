@@ -75,7 +75,7 @@ invariant_of-store g c =
     let there : phase_in c.args.xid s.transactions ≡ Some c.in-Some.phase = sym c.phase.ensures.found ∙ c.in-Some.is in
     let names = c.deref.result.now in
     let named_so : names ≡ queues_in c.args.xid s.transactions = c.deref.ensures.value ∙ c.end-names.ensures.names in
-    end_store g.S.Site.told g.S.Site.faults g.N.Serials.drawn g.N.Serials.faults s c.self.invariant false c.args.xid c.in-Some.phase there names named_so c.in_ok-journals.journals c.end-names.new.self c.end-names.ensures.without c.in_ok-journals.ensures.queues c.in_ok-journals.ensures.entries c.in_ok-journals.ensures.kept
+    end_store g.S.Site.told g.S.Site.faults g.N.Serials.drawn g.N.Serials.faults s c.self.invariant false c.args.xid c.in-Some.phase there names named_so c.in_ok-journals.journals c.end-names.new.self c.end-names.ensures.without c.in_ok-journals.ensures.queues c.in_ok-journals.ensures.entries c.in_ok-journals.ensures.kept (c.in_ok-journals.ensures.called.released c.self.invariant.released)
 
 pub returns : goal.returns
 returns g c =

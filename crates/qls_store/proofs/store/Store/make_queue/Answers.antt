@@ -41,7 +41,7 @@ invariant_of-store g c =
     let s : StoreState = record { journals = c.self.inside.journals; transactions = c.self.inside.transactions } in
     let v : WouldStandAt s.journals.queues c.args.name c.in-Err.at = c.in-Err.ensures.place in
     let pool_so : c.unwrap_or-home.result ≡ pool_or s.journals.home c.args.home = c.unwrap_or-home.ensures ∙ ap (unwrap_or c.args.home) c.home.ensures.exact ∙ pool_is c.args.home s.journals.home in
-    queue_store g.S.Site.told g.S.Site.faults g.N.Serials.drawn g.N.Serials.faults s c.self.invariant c.args.site.now c.args.serials.now c.args.name c.args.home c.in-Err.at v c.unwrap_or-home.result pool_so c.create.new.site c.create.new.serials c.in_ok-journals.journals c.in_ok-journals.ensures.queues c.in_ok-journals.ensures.list c.in_ok-journals.ensures.kept
+    queue_store g.S.Site.told g.S.Site.faults g.N.Serials.drawn g.N.Serials.faults s c.self.invariant c.args.site.now c.args.serials.now c.args.name c.args.home c.in-Err.at v c.unwrap_or-home.result pool_so c.create.new.site c.create.new.serials c.in_ok-journals.journals c.in_ok-journals.ensures.queues c.in_ok-journals.ensures.list c.in_ok-journals.ensures.kept (c.in_ok-journals.ensures.released c.self.invariant.released)
 
 pub returns : goal.returns
 returns g c =
@@ -51,5 +51,5 @@ returns g c =
     let went : Went g.S.Site.told g.S.Site.faults g.N.Serials.drawn g.N.Serials.faults s.journals c.in_ok-journals.journals (with_home c.args.name (Some c.unwrap_or-home.result) (homes_of s)) c.args.site.now c.create.new.site c.args.serials.now c.create.new.serials = record { told = c.in_ok-journals.ensures.told; drawn = c.in_ok-journals.ensures.drawn; leaves = c.in_ok-journals.ensures.leaves; writes = c.in_ok-journals.ensures.writes; pools = c.in_ok-journals.ensures.pools; sites_kept = c.in_ok-journals.ensures.causes.sites_kept; draws_kept = c.in_ok-journals.ensures.causes.draws_kept } in
     let r : Runs g.S.Site.told g.S.Site.faults g.N.Serials.drawn g.N.Serials.faults c.args.self (command.Queue c.args.name c.args.home) c.args.site.now c.create.new.site c.args.serials.now c.create.new.serials (Ok (record { journals = c.in_ok-journals.journals; transactions = s.transactions }, Done)) =
     subst (λ w. Runs g.S.Site.told g.S.Site.faults g.N.Serials.drawn g.N.Serials.faults w (command.Queue c.args.name c.args.home) c.args.site.now c.create.new.site c.args.serials.now c.create.new.serials (Ok (record { journals = c.in_ok-journals.journals; transactions = s.transactions }, Done))) c.self.view_is
-    (queue_done g.S.Site.told g.S.Site.faults g.N.Serials.drawn g.N.Serials.faults s c.self.invariant c.args.site.now c.args.serials.now c.args.name c.args.home c.in-Err.at v c.unwrap_or-home.result pool_so c.create.new.site c.create.new.serials c.in_ok-journals.journals went c.in_ok-journals.ensures.queues c.in_ok-journals.ensures.list c.in_ok-journals.ensures.kept c.in_ok-journals.ensures.alive c.in_ok-journals.ensures.homes c.in_ok-journals.ensures.had) in
+    (queue_done g.S.Site.told g.S.Site.faults g.N.Serials.drawn g.N.Serials.faults s c.self.invariant c.args.site.now c.args.serials.now c.args.name c.args.home c.in-Err.at v c.unwrap_or-home.result pool_so c.create.new.site c.create.new.serials c.in_ok-journals.journals went c.in_ok-journals.ensures.queues c.in_ok-journals.ensures.list c.in_ok-journals.ensures.kept (c.in_ok-journals.ensures.released c.self.invariant.released) c.in_ok-journals.ensures.alive c.in_ok-journals.ensures.homes c.in_ok-journals.ensures.had) in
     record { stepped = r.stepped; ended = r.ended; still = r.still; store = r.store; rid = r.rid; told = r.told; drawn = r.drawn; leaves = r.leaves; writes = r.writes; pools = r.pools; homes = r.homes; refused = r.refused; spent = r.spent; causes = r.causes }

@@ -107,7 +107,7 @@ invariant_of-store-2 g c =
     let got : put_answer w.queue.queue ≡ Ok c.in-Ok-put.number = sym answer ∙ c.in-Ok-put.is in
     let queues = at_place (λ (q : LiveState). queues_of c.in_ok-journals.journals ≡ change_queue q.queue.name (with_message (put_message c.in-Ok-put.number c.args.body c.args.xid)) (queues_of s.journals)) s.journals.queues c.in-Ok.at w.queue w.there (IfOk-at_ok (λ number. IfSome (slice_get s.journals.queues c.in-Ok.at) (λ (q : LiveState). queues_of c.in_ok-journals.journals ≡ change_queue q.queue.name (with_message (put_message number c.args.body c.args.xid)) (queues_of s.journals))) c.in-Ok-put.is c.in_ok-journals.ensures.queues) in
     subst (λ ts. IsStore (record { journals = c.in_ok-journals.journals; transactions = ts })) (sym c.in_ok-touch.ensures.touched)
-    (put_store g.S.Site.told g.S.Site.faults g.N.Serials.drawn g.N.Serials.faults s c.self.invariant c.args.site.now c.args.serials.now c.args.name c.args.body c.args.xid c.in-Ok.at w opened c.put.new.site c.put.new.serials c.in-Ok-put.number got c.in_ok-journals.journals queues c.in_ok-journals.ensures.list c.in_ok-journals.ensures.kept)
+    (put_store g.S.Site.told g.S.Site.faults g.N.Serials.drawn g.N.Serials.faults s c.self.invariant c.args.site.now c.args.serials.now c.args.name c.args.body c.args.xid c.in-Ok.at w opened c.put.new.site c.put.new.serials c.in-Ok-put.number got c.in_ok-journals.journals queues c.in_ok-journals.ensures.list c.in_ok-journals.ensures.kept (c.in_ok-journals.ensures.released c.self.invariant.released))
 
 pub returns : goal.returns
 returns g c =
@@ -121,5 +121,5 @@ returns g c =
     let went : Went g.S.Site.told g.S.Site.faults g.N.Serials.drawn g.N.Serials.faults s.journals c.in_ok-journals.journals (homes_of s) c.args.site.now c.put.new.site c.args.serials.now c.put.new.serials = record { told = c.in_ok-journals.ensures.told; drawn = c.in_ok-journals.ensures.drawn; leaves = c.in_ok-journals.ensures.leaves; writes = c.in_ok-journals.ensures.writes; pools = c.in_ok-journals.ensures.pools; sites_kept = c.in_ok-journals.ensures.causes.sites_kept; draws_kept = c.in_ok-journals.ensures.causes.draws_kept } in
     let r : Runs g.S.Site.told g.S.Site.faults g.N.Serials.drawn g.N.Serials.faults c.args.self (command.Put c.args.name c.args.body c.args.xid) c.args.site.now c.put.new.site c.args.serials.now c.put.new.serials (Ok (record { journals = c.in_ok-journals.journals; transactions = c.touch.new.self }, Number c.in-Ok-put.number)) =
     subst (λ w. Runs g.S.Site.told g.S.Site.faults g.N.Serials.drawn g.N.Serials.faults w (command.Put c.args.name c.args.body c.args.xid) c.args.site.now c.put.new.site c.args.serials.now c.put.new.serials (Ok (record { journals = c.in_ok-journals.journals; transactions = c.touch.new.self }, Number c.in-Ok-put.number))) c.self.view_is
-    (put_told g.S.Site.told g.S.Site.faults g.N.Serials.drawn g.N.Serials.faults s c.self.invariant c.args.site.now c.args.serials.now c.args.name c.args.body c.args.xid c.in-Ok.at w opened c.put.new.site c.put.new.serials c.in-Ok-put.number got c.in_ok-journals.journals queues c.in_ok-journals.ensures.list c.in_ok-journals.ensures.kept c.touch.new.self c.in_ok-touch.ensures.touched went c.in_ok-journals.ensures.alive c.in_ok-journals.ensures.homes had) in
+    (put_told g.S.Site.told g.S.Site.faults g.N.Serials.drawn g.N.Serials.faults s c.self.invariant c.args.site.now c.args.serials.now c.args.name c.args.body c.args.xid c.in-Ok.at w opened c.put.new.site c.put.new.serials c.in-Ok-put.number got c.in_ok-journals.journals queues c.in_ok-journals.ensures.list c.in_ok-journals.ensures.kept (c.in_ok-journals.ensures.released c.self.invariant.released) c.touch.new.self c.in_ok-touch.ensures.touched went c.in_ok-journals.ensures.alive c.in_ok-journals.ensures.homes had) in
     record { stepped = r.stepped; ended = r.ended; still = r.still; store = r.store; rid = r.rid; told = r.told; drawn = r.drawn; leaves = r.leaves; writes = r.writes; pools = r.pools; homes = r.homes; refused = r.refused; spent = r.spent; causes = r.causes }

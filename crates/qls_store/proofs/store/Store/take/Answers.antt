@@ -106,7 +106,7 @@ invariant_of-store-2 g c =
     let got : take_answer w.queue.queue c.args.number ≡ Ok tt = sym answer ∙ c.in_default-taken.is in
     let queues = at_place (λ (q : LiveState). queues_of c.in_ok-journals.journals ≡ change_queue q.queue.name (taken c.args.number c.args.xid) (queues_of s.journals)) s.journals.queues c.in-Ok.at w.queue w.there (IfOk-at_ok (λ number. IfSome (slice_get s.journals.queues c.in-Ok.at) (λ (q : LiveState). queues_of c.in_ok-journals.journals ≡ change_queue q.queue.name (taken c.args.number c.args.xid) (queues_of s.journals))) c.in_default-taken.is c.in_ok-journals.ensures.queues) in
     subst (λ ts. IsStore (record { journals = c.in_ok-journals.journals; transactions = ts })) (sym c.in_ok-touch.ensures.touched)
-    (take_store g.S.Site.told g.S.Site.faults g.N.Serials.drawn g.N.Serials.faults s c.self.invariant c.args.site.now c.args.serials.now c.args.name c.args.number c.args.xid c.in-Ok.at w opened c.take.new.site c.take.new.serials got c.in_ok-journals.journals queues c.in_ok-journals.ensures.list c.in_ok-journals.ensures.kept)
+    (take_store g.S.Site.told g.S.Site.faults g.N.Serials.drawn g.N.Serials.faults s c.self.invariant c.args.site.now c.args.serials.now c.args.name c.args.number c.args.xid c.in-Ok.at w opened c.take.new.site c.take.new.serials got c.in_ok-journals.journals queues c.in_ok-journals.ensures.list c.in_ok-journals.ensures.kept (c.in_ok-journals.ensures.released c.self.invariant.released))
 
 pub returns : goal.returns
 returns g c =
@@ -120,5 +120,5 @@ returns g c =
     let went : Went g.S.Site.told g.S.Site.faults g.N.Serials.drawn g.N.Serials.faults s.journals c.in_ok-journals.journals (homes_of s) c.args.site.now c.take.new.site c.args.serials.now c.take.new.serials = record { told = c.in_ok-journals.ensures.told; drawn = c.in_ok-journals.ensures.drawn; leaves = c.in_ok-journals.ensures.leaves; writes = c.in_ok-journals.ensures.writes; pools = c.in_ok-journals.ensures.pools; sites_kept = c.in_ok-journals.ensures.causes.sites_kept; draws_kept = c.in_ok-journals.ensures.causes.draws_kept } in
     let r : Runs g.S.Site.told g.S.Site.faults g.N.Serials.drawn g.N.Serials.faults c.args.self (command.Take c.args.name c.args.number c.args.xid) c.args.site.now c.take.new.site c.args.serials.now c.take.new.serials (Ok (record { journals = c.in_ok-journals.journals; transactions = c.touch.new.self }, Done)) =
     subst (λ w. Runs g.S.Site.told g.S.Site.faults g.N.Serials.drawn g.N.Serials.faults w (command.Take c.args.name c.args.number c.args.xid) c.args.site.now c.take.new.site c.args.serials.now c.take.new.serials (Ok (record { journals = c.in_ok-journals.journals; transactions = c.touch.new.self }, Done))) c.self.view_is
-    (take_told g.S.Site.told g.S.Site.faults g.N.Serials.drawn g.N.Serials.faults s c.self.invariant c.args.site.now c.args.serials.now c.args.name c.args.number c.args.xid c.in-Ok.at w opened c.take.new.site c.take.new.serials got c.in_ok-journals.journals queues c.in_ok-journals.ensures.list c.in_ok-journals.ensures.kept c.touch.new.self c.in_ok-touch.ensures.touched went c.in_ok-journals.ensures.alive c.in_ok-journals.ensures.homes had) in
+    (take_told g.S.Site.told g.S.Site.faults g.N.Serials.drawn g.N.Serials.faults s c.self.invariant c.args.site.now c.args.serials.now c.args.name c.args.number c.args.xid c.in-Ok.at w opened c.take.new.site c.take.new.serials got c.in_ok-journals.journals queues c.in_ok-journals.ensures.list c.in_ok-journals.ensures.kept (c.in_ok-journals.ensures.released c.self.invariant.released) c.touch.new.self c.in_ok-touch.ensures.touched went c.in_ok-journals.ensures.alive c.in_ok-journals.ensures.homes had) in
     record { stepped = r.stepped; ended = r.ended; still = r.still; store = r.store; rid = r.rid; told = r.told; drawn = r.drawn; leaves = r.leaves; writes = r.writes; pools = r.pools; homes = r.homes; refused = r.refused; spent = r.spent; causes = r.causes }

@@ -133,4 +133,4 @@ settled s h =
 -- ---- a clean store is whole
 
 pub clean_whole : (s : JournalsState) (d : Disk) → IsClean s d → IsWhole s d
-clean_whole s d h = record { queues = h.queues; list = h.list.whole }
+clean_whole s d h = h.whole
