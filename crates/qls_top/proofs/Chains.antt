@@ -1,5 +1,5 @@
 -- Moments that the calls of a run add.
-use Rattle.std.proofs.Common.{◌≡◌, inl, List, [], ◌∷◌, ◌++◌, IfSome, Option, Some, None, Result, Ok, Err, IsErr, refl, sym, ap, ◌∙◌, subst}
+use Rattle.std.proofs.Common.{◌≡◌, inl, List, [], ◌∷◌, ◌++◌, Option, Some, None, Result, Ok, Err, IsErr, refl, sym, ap, ◌∙◌, subst}
 use Rattle.qls_site.specs.Content.{Moment, Content, Tells}
 use Rattle.qls_site.proofs.Told.{Tells-then, Tells-weaken}
 use Rattle.qls_meaning.specs.History.{AllUnmarked, last_of}
@@ -22,7 +22,7 @@ ends_err R done (Err f) a b e h = h
 
 -- a step while a command is at work is one of a run
 pub run_of_silent : (m n : Moment) → IsStoreStep m n → IsRunStep m n
-run_of_silent m n h = record { differ = h.differ; pool = h.pool; next = h.next; headers = h.headers }
+run_of_silent m n h = record { differ = h.differ; pool = h.pool; headers = h.headers }
 
 quiet_of_silent : (m n : Moment) → IsStoreStep m n → Quietly m n
 quiet_of_silent m n h = inl h.answered
@@ -52,21 +52,11 @@ answers_nothing a b h = ap (λ (m : Moment). m.answered) h.last ∙ silent_answe
 pub went_then : (a b c : Option Content) → Tells (Arrives IsRunStep) a b → Tells (Passes IsRunStep) b c → Tells (Passes IsRunStep) a c
 went_then a b c h k = Tells-then (Arrives IsRunStep) (Passes IsRunStep) (Passes IsRunStep) a b c h k (Arrives-passes IsRunStep)
 
-pub went_of : (a b : Option Content) → Tells (Arrives IsRunStep) a b → Tells (Passes IsRunStep) a b
-went_of a b h = Tells-weaken (Arrives IsRunStep) (Passes IsRunStep) a b h (Passes-of IsRunStep)
-
 pub silent_went : (a b : Option Content) → Tells (Passes IsStoreStep) a b → Tells (Passes IsRunStep) a b
 silent_went a b h = Tells-weaken (Passes IsStoreStep) (Passes IsRunStep) a b h silent_passes
 
 pub silent_quiet : (a b : Option Content) → Tells (Passes IsStoreStep) a b → Tells AnswersQuietly a b
 silent_quiet a b h = Tells-weaken (Passes IsStoreStep) AnswersQuietly a b h (λ x y k q. silent_quietly x y k)
-
--- told content with what is known of it before and after
-pub told_with : (R : Content → Content → Type 0) (P Q : Content → Type 0) (a b : Option Content) → Tells R a b → IfSome a P → IfSome b Q → Tells (λ x y. R x y × P x × Q y) a b
-told_with R P Q None None h p q = tt
-told_with R P Q None (Some y) h p q = absurd h
-told_with R P Q (Some x) None h p q = absurd h
-told_with R P Q (Some x) (Some y) h p q = (h, p, q)
 
 -- ---- unmarked files, call after call
 

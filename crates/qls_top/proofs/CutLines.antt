@@ -1,17 +1,15 @@
 -- Lines of a script that is read in pieces.
-use Rattle.std.proofs.Common.{◌≡◌, ℕ, zero, suc, ◌||◌, ◌+◌, ◌-◌, ◌<◌, ◌≤◌, Bool, true, false, cond, eqb, List, [], ◌∷◌, ◌++◌, length, take, drop, refl, sym, ap, ◌∙◌, subst, arith, append_assoc, take-append-drop, length-append, length-take, Option, Some, None}
+use Rattle.std.proofs.Common.{◌≡◌, ℕ, zero, suc, ◌||◌, ◌+◌, ◌-◌, ◌<◌, ◌≤◌, Bool, true, false, cond, eqb, List, [], ◌∷◌, ◌++◌, length, take, drop, refl, sym, ap, ◌∙◌, arith, append_assoc, take-append-drop, length-append, length-take, Option, Some, None}
 use Rattle.std.proofs.Math.Seq.{take-append-add}
 use Rattle.std.proofs.lemmas.List.{length-take-le, take_all, drop-take, drop-drop}
 use borrow.Author.Tests.{ltb-true, ltb-false}
 use Rattle.qls_command.specs.Lines.{lines, onto_first}
-use Rattle.std.proofs.Common.{Ok, Err, nat_lt, not, append-nil, lit<, ◌==◌}
+use Rattle.std.proofs.Common.{Ok, nat_lt, not, append-nil, lit<, ◌==◌}
 use Rattle.std.proofs.lemmas.List.Folds.{list_any-append}
 use Rattle.std.proofs.lemmas.Bool.{or_from}
 use Rattle.qls_site.specs.Content.{Gives, Takes}
 use Rattle.qls_site.specs.declared.source.SourceError.{SourceError}
-use Rattle.qls_top.specs.declared.fault.Fault.{Fault}
-use Rattle.qls_top.specs.declared.fault.Fault.TheVariants as fault
-use Rattle.qls_top.specs.Cutting.{Cutter, has_feed, kept_of_line, EndsAt, EndsBy, CountsDown, Counted, Refills, HasPart, SoFar, TakesPart, Cuts, CutsTold}
+use Rattle.qls_top.specs.Cutting.{Cutter, has_feed, kept_of_line, Counted, Refills, HasPart, SoFar, TakesPart, Cuts, CutsTold}
 
 -- ---- what is kept of a line
 
@@ -50,24 +48,6 @@ lines-last b (c ∷ l) h = let n = not_feed b (c ∷ l) h in
     ap (λ t. cond t ([] ∷ lines (c ∷ l)) (onto_first b (lines (c ∷ l)))) n.0 ∙ ap (onto_first b) (lines-last c l n.1)
 
 -- ---- reading on
-
--- where the budget is spent already
-counted_at_end : (l m : List ℕ) (f : Fault) → EndsAt l m (Err f) → CountsDown 0 l 0 m (Err f)
-counted_at_end l m fault.Source h = omega (arith, ap length h)
-counted_at_end l m fault.Site h = omega (arith, ap length h)
-counted_at_end l m fault.Memory h = omega (arith, ap length h)
-counted_at_end l m fault.TooLong h = omega (arith, h)
-counted_at_end l m fault.Draw h = omega (arith, ap length h)
-counted_at_end l m fault.Spent h = omega (arith, ap length h)
-counted_at_end l m fault.NotEmpty h = omega (arith, ap length h)
-counted_at_end l m fault.Damaged h = omega (arith, ap length h)
-
-pub counted_end : (old new : ℕ) (l m : Option (List ℕ)) (f : Fault) → old ≡ 0 → new ≡ 0 → EndsBy l m (Err f) → Counted old l new m (Err f)
-counted_end old new None None f o n h = tt
-counted_end old new None (Some m) f o n h = absurd h
-counted_end old new (Some l) None f o n h = absurd h
-counted_end old new (Some l) (Some m) f o n h =
-    subst (λ k. CountsDown k l new m (Err f)) (sym o) (subst (λ k. CountsDown 0 l k m (Err f)) (sym n) (counted_at_end l m f h))
 
 read_some : (l m into items : List ℕ) (n budget : ℕ) → Takes l m into n → n ≤ length into → take n items ≡ take n into → (b : Bool) → nat_lt 0 n ≡ b
     → Refills (Some l) (record { waiting = take (n - 0) (drop 0 items); budget = budget }) (Some m) b
@@ -165,11 +145,6 @@ line_is_last old mid next new (Some l) (Some m) (Some k) line kept b s t r e =
 pub kept_length : (waiting rest line kept : List ℕ) (b : Bool) → TakesPart waiting rest line kept b → length kept ≤ 2100001
 kept_length waiting rest line kept true t = omega (arith, ap length t.3, length-take 2100001 (line ++ t.0))
 kept_length waiting rest line kept false t = omega (arith, ap length t.2, length-take 2100001 (line ++ waiting))
-
--- the line grew by no more than went out of what waits
-pub part_spent : (waiting rest line kept : List ℕ) → TakesPart waiting rest line kept true → length rest + length kept < length waiting + length line
-part_spent waiting rest line kept t =
-    omega (arith, ap length t.1, length-append t.0 (10 ∷ rest), ap length t.3, length-take 2100001 (line ++ t.0), length-append line t.0)
 
 pub rest_spent : (waiting rest line kept : List ℕ) → TakesPart waiting rest line kept false → (length kept ≤ length waiting + length line) × (rest ≡ [])
 rest_spent waiting rest line kept t = (omega (arith, ap length t.2, length-take 2100001 (line ++ waiting), length-append line waiting), t.0)

@@ -22,7 +22,7 @@ use Rattle.qls_queue.specs.Live.{LiveState, QueueThere}
 use Rattle.qls_prepared.specs.Lists.{IsOwn, ThereBy}
 use Rattle.qls_prepared.specs.Moments.{WrittenBy}
 use Rattle.qls_journals.specs.State.{IsKept}
-use Rattle.qls_journals.specs.Homes.{Homes, IsOfHome, TakesFromHome}
+use Rattle.qls_journals.specs.Homes.{Homes, TakesFrom, TakesFromHome}
 use Rattle.qls_store.specs.Stores.{StoreState, IsStore, Fits, IsClean}
 use Rattle.qls_journals.specs.Moments.{AreWritten}
 use Rattle.qls_top.specs.Running.{AnswersInOrder}
@@ -120,7 +120,7 @@ pub same_leaves : (m n : Moment) → IdsDiffer m.disk → n.disk ≡ m.disk → 
 same_leaves m n differ e = each_same (LeavesFile m) m n (λ g used not. absurd (not_both (is_in_use g.place) used not)) differ e
 
 pub same_pools : (homes : Homes) (m n : Moment) → IdsDiffer m.disk → n.disk ≡ m.disk → TakesFromHome homes m n
-same_pools homes m n differ e = each_same (IsOfHome homes) m n (λ g not used. absurd (not_both (is_in_use g.place) used not)) differ e
+same_pools homes m n differ e = each_same (TakesFrom homes m.disk) m n (λ g not used. absurd (not_both (is_in_use g.place) used not)) differ e
 
 no_more : (ws : List Write) (w : Write) → ws ≡ ws ++ w ∷ [] → ⊥
 no_more ws w e = omega (arith, ap length e, length-append ws (w ∷ []))

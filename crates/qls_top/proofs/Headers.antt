@@ -1,5 +1,5 @@
 -- What is read of a header that stands in a file.
-use Rattle.std.proofs.Common.{◌≡◌, ℕ, ◌+◌, List, Result, Ok, Err}
+use Rattle.std.proofs.Common.{◌≡◌, ℕ, ◌+◌, Bool, true, false, List, Result, Ok, Err, refl, subst}
 use Rattle.std.specs.Int.{w16}
 use Rattle.qls_shape.specs.Claims.{claim, ◌>>◌}
 use Rattle.qls_shape.specs.Fields.{number_at}
@@ -23,3 +23,15 @@ fields_read bytes h is =
     let name : Result (Unit {0}) Rule = claim (is_name (header_fields bytes).kind (header_fields bytes).name) rule.Name in
     then_ok {A = Unit {0}} last (header_fields bytes) h (then_all {A = Unit {0}} {B = FileHeader} name (last >> Ok (header_fields bytes)) h
     (then_all {A = Unit {0}} {B = FileHeader} (number_claims bytes) (name >> (last >> Ok (header_fields bytes))) h is))
+
+-- a legal header names a journal
+pub named_well : (bytes : List ℕ) (h : FileHeader) → header_of bytes ≡ Ok h → is_name h.kind h.name ≡ true
+named_well bytes h is =
+    let last : Result (Unit {0}) Rule = rest_claims (60 + number_at w16 58 bytes) bytes in
+    let b : Bool = is_name (header_fields bytes).kind (header_fields bytes).name in
+    subst (λ (x : FileHeader). is_name x.kind x.name ≡ true) (fields_read bytes h is)
+    (claimed b (last >> Ok (header_fields bytes)) (then_all {A = Unit {0}} {B = FileHeader} (number_claims bytes) (claim b rule.Name >> (last >> Ok (header_fields bytes))) h is))
+  where
+    claimed : (b : Bool) (r : Result FileHeader Rule) → (claim b rule.Name >> r) ≡ Ok h → b ≡ true
+    claimed true r e = refl
+    claimed false r e = absurd (cc)

@@ -7,9 +7,11 @@ pub mod LineDiscipline
 pub mod RunDiscipline
 pub mod Starting
 pub mod Lines
-pub mod InOrder
+pub mod Due
 pub mod Beginning
+pub mod Damaging
 pub mod FirstMoments
+pub mod DueRuns
 pub mod Working
 pub mod Replying
 pub mod Having

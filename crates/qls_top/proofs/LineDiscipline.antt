@@ -49,10 +49,7 @@ chain_then Q R S a b c h k one two =
 pub passes_chain : (R : Moment → Moment → Type 0) (a b : Content) → Passes R a b → Chain R a.now (moments_since a b)
 passes_chain R a b h = subst (λ (ms : List Moment). Chain R a.now ms) (sym (since_is R a b h)) h.chain
 
-pub arrives_chain : (R : Moment → Moment → Type 0) (a b : Content) → Arrives R a b → Chain R a.now (moments_since a b)
-arrives_chain R a b h = passes_chain R a b (Passes-of R a b h)
-
-silent_chain : (a b : Content) → Passes IsStoreStep a b → Chain Silent a.now (moments_since a b)
+pub silent_chain : (a b : Content) → Passes IsStoreStep a b → Chain Silent a.now (moments_since a b)
 silent_chain a b h = chain_weaken IsStoreStep Silent (λ m n s. s.answered) a.now (moments_since a b) (passes_chain IsStoreStep a b h)
 
 -- an answer's moments are the one before it again, and the one with it

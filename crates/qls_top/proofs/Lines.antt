@@ -2,16 +2,15 @@
 use Rattle.std.proofs.Common.{◌≡◌, inl, inr, ℕ, Bool, true, false, cond, leb, ◌<◌, List, [], ◌∷◌, ◌++◌, map, length, take, Option, Some, None, IfSome, Result, Ok, Err, refl, sym, ap, ◌∙◌, subst, arith, append_assoc, append-nil, length-take}
 use Rattle.std.proofs.lemmas.Bool.{leb-true}
 use Rattle.std.proofs.lemmas.List.{take_all}
-use Rattle.qls_model.specs.declared.machine.PoolId.{PoolId}
 use Rattle.qls_model.specs.declared.machine.Command.{Command}
 use Rattle.qls_model.specs.Machine.{MachineState}
 use Rattle.qls_site.specs.declared.site.SiteError.{SiteError}
 use Rattle.qls_site.specs.declared.site.SiteError.TheVariants.{Failed, Memory}
-use Rattle.qls_site.specs.Disk.{Disk, FileState, Image, IsQuiet, file_of, bytes_at, full}
+use Rattle.qls_site.specs.Disk.{Disk, IsQuiet, bytes_at}
 use Rattle.qls_site.specs.Content.{Content, Moment, Acts, MayAct, Leads, Tells, on_answered}
 use Rattle.qls_site.proofs.Told.{Tells-then, Tells-weaken}
-use Rattle.qls_meaning.specs.Journals.{Headed, is_in_use}
-use Rattle.qls_meaning.specs.History.{AllUnmarked, newly_used, is_file_in_use}
+use Rattle.qls_meaning.specs.Journals.{Headed}
+use Rattle.qls_meaning.specs.History.{AllUnmarked, newly_used}
 use Rattle.qls_pool.specs.Files.{IdsDiffer, OnDisk}
 use Rattle.qls_pool.proofs.FirstTaken.{same_is_step}
 use Rattle.qls_command.specs.Lines.{lines, command_of, command_of_words, words, commands}
@@ -23,42 +22,31 @@ use Rattle.qls_top.specs.Answers.{answer_line, state_answered, answers_text}
 use Rattle.qls_top.specs.Cutting.{Cutter, kept_of_line, CutsTold, Counted, script_limit}
 use Rattle.qls_pool.specs.Moments.{Arrives, Passes, EndsIn}
 use Rattle.qls_meaning.specs.History.{last_of}
-use Rattle.qls_pool.specs.Next.{Epochs, IsNextTaken, TakesNext}
 use Rattle.qls_top.specs.Moments.{AddsAnswer, AtReplies, Quietly, AnswersQuietly, IsRunStep, UnmarkedSince}
 use Rattle.qls_pool.specs.Serials.{TakesNone, serials_taken}
 use Rattle.qls_top.specs.Serials.{is_exact}
-use Rattle.qls_store.specs.Stores.{StoreState, state_of, home_of, rid_of, IsStore, Fits, IsClean}
+use Rattle.qls_store.specs.Stores.{StoreState, state_of, rid_of, IsStore, Fits, IsClean}
 use Rattle.qls_log.specs.Leaving.{WritesInOrder}
 use Rattle.qls_log.specs.Unwritten.{history_with}
-use Rattle.qls_journals.specs.Moments.{IsStoreStep, StaysQuiet, StaysWritten, AreWritten, first_epochs}
+use Rattle.qls_journals.specs.Homes.{Homes, SameHomes}
+use Rattle.qls_store.specs.Homes.{homes_of}
+use Rattle.qls_journals.specs.Moments.{IsStoreStep, StaysQuiet, StaysWritten, AreWritten}
 use Rattle.qls_top.specs.Held.{IsHeld}
-use Rattle.qls_top.specs.Running.{LineMeetsEnd, LineMeetsAtOnce, LineStops, RunsLine, RunsBuilt, rid_after}
+use Rattle.qls_top.specs.Running.{LineMeetsEnd, LineMeetsAtOnce, LineStops, RunsLine, RunsBuilt, homes_by, rid_after}
 use Rattle.qls_top.specs.Status.{status_of, IsOfLine}
-use Rattle.qls_top.specs.Run.{rid_answered, IsUnderWay, UnderWay, IsRun, EndsClean, StaysClean, MeetsEnd, EndsSpentIn, MayBegin, MayNotBegin, Starts, StartsOn, StartsWith, StaysAsItWas, refuses_status, refuses_start, status_of_result, is_exact_status, is_too_long, ReadsBytes, ReadBytes}
-use Rattle.qls_pool.proofs.Came.{NoneComes, WasInUse, none_came, none_same}
-use Rattle.qls_pool.proofs.Steps.{all_weaken}
+use Rattle.qls_top.specs.Run.{homes_answered, rid_answered, IsUnderWay, UnderWay, IsRunClean, EndsClean, StaysClean, MeetsEnd, EndsSpentIn, is_exact_status, is_too_long, ReadsBytes, ReadBytes}
+use Rattle.qls_pool.proofs.Came.{none_came, none_same}
 use Rattle.qls_pool.proofs.Moments.{chain-append, chain_weaken, Arrives-same, Arrives-then, Arrives-acts, Arrives-passes, Passes-may, Passes-same, Passes-of, since_is, since_of}
 use Rattle.qls_top.proofs.Chains.{silent_arrives, silent_arrives_quietly, answers_nothing, unmarked_front, unmarked_parts}
 use Rattle.qls_top.proofs.Holding.{MeansItsState, SaysItsRid}
 
 -- ---- the answer
 
-next_of_none : (epochs : Epochs) (m : Moment) (o : Option FileState) (g : FileState) → (is_in_use g.place ≡ true → is_file_in_use o ≡ true) → TakesNext epochs m o g
-next_of_none epochs m None g h = tt
-next_of_none epochs m (Some f) g h = λ was now. absurd (not_both (is_in_use f.place) (h now) was)
-  where
-    not_both : (b : Bool) → b ≡ true → b ≡ false → ⊥
-    not_both b e k = cc
-
-none_next : (epochs : Epochs) (m n : Moment) → NoneComes m n → IsNextTaken epochs m n
-none_next epochs m n h = all_weaken (WasInUse m) (λ g. TakesNext epochs m (file_of g.id m.disk) g) (λ g k. next_of_none epochs m (file_of g.id m.disk) g k) n.disk h
-
 -- a moment that has the disk of the one before
 pub same_disk : (m n : Moment) → IdsDiffer m.disk → n.disk ≡ m.disk → IsRunStep m n
 same_disk m n differ e = record {
   differ = λ d. subst IdsDiffer (sym e) d;
   pool = same_is_step m n differ e;
-  next = none_next first_epochs m n (none_same m n differ e);
   headers = λ id used. ap (λ (d : Disk). take 4096 (bytes_at id d)) e;
 }
 
@@ -139,7 +127,7 @@ answer_passes answer (Err f) mid new differ h = h
 pub record Commanded (was : StoreState) (asked : Option Command) (s : StoreState) (old new : Content) : Type 0 where
   pub arrives : Arrives IsStoreStep old new
   pub quiet : StaysQuiet old new
-  pub had : IsClean was old.now.disk → LineMeetsAtOnce (home_of was) (state_of was) asked old.now.disk → ⊥
+  pub had : IsClean was old.now.disk → LineMeetsAtOnce (homes_of was) (state_of was) asked old.now.disk → ⊥
   pub fits : Fits s new.now.disk
   pub clean : AllUnmarked old.now arrives.since → IsClean was old.now.disk → IsClean s new.now.disk
 
@@ -168,7 +156,7 @@ told_commanded was asked s (Some x) None fits r = absurd r
 told_commanded was asked s (Some x) (Some y) fits r = commanded was asked s x y fits r
 
 module _ (was : StoreState) (line : Option Command) (s : StoreState) (answer : Reply) (stepped : (state_of s, answer) ≡ answer_line (state_of was) line)
-    (ridden : rid_of s ≡ rid_after (state_of was) line (rid_of was)) where
+    (ridden : rid_of s ≡ rid_after (state_of was) line (rid_of was)) (homed : SameHomes (homes_of s) (homes_by (state_of was) line (homes_of was))) where
   answered_in : (old mid new : Content) → Commanded was line s old mid → Acts (on_answered (reply_text answer)) mid new → RunsLine was line s old new
   answered_in old mid new r acts =
       let now = ap (λ (c : Content). c.now) acts in
@@ -178,6 +166,7 @@ module _ (was : StoreState) (line : Option Command) (s : StoreState) (answer : R
       record {
         state = ap (λ p. p.0) stepped;
         rid = ridden;
+        homes = homed;
         arrives = Arrives-then IsRunStep old mid new (silent_arrives old mid r.arrives) one;
         quiet = λ q. subst IsQuiet (sym disk) (r.quiet q);
         last = chain-append (AtReplies (λ n. n ≡ new.now)) old.now r.arrives.since (on_answered (reply_text answer) mid.now ∷ [])
@@ -216,10 +205,6 @@ module _ (was : StoreState) (asked : Option Command) (s : StoreState) where
   differ_after None (Some new) r = absurd r
   differ_after (Some old) None r = absurd r
   differ_after (Some old) (Some new) r = r.fits.pool.0
-
-pub ends_passes : {X : Type 0} (done : X → Content → Content → Type 0) (r : Result X Fault) (a b : Option Content) → ((x : X) (c e : Content) → done x c e → Passes IsRunStep c e) → Tells (EndsIn done (Passes IsRunStep) r) a b → Tells (Passes IsRunStep) a b
-ends_passes done (Ok x) a b f h = Tells-weaken (done x) (Passes IsRunStep) a b h (f x)
-ends_passes done (Err e) a b f h = h
 
 -- a line that is none writes nothing
 pub none_written : (s : StoreState) (answer : Reply) (a : Option Content) → Tells (StaysWritten {X = StoreState × Reply} {E = Fault} (Ok (s, answer)) (λ r. r.0.journals) s.journals) a a
@@ -267,10 +252,20 @@ pub cut_split : (script before rest line kept : List ℕ) (done : List (Option C
 cut_split script before rest line kept done split cut is =
     split ∙ ap (λ cs. done ++ cs) (ap (map command_of) cut ∙ ap (λ (c : Option Command). c ∷ commands rest) (sym (ap command_of is ∙ kept_command line)))
 
-pub step_in : (given : ℕ) (Z : MachineState) (script before rest line kept : List ℕ) (s t : StoreState) (old mid new : Content) → lines before ≡ line ∷ lines rest → kept ≡ kept_of_line line
-    → IsUnderWay given Z script before s old mid → RunsLine s (command_of kept) t mid new → IsUnderWay given Z script rest t old new
-step_in given Z script before rest line kept s t old mid new cut is u r =
+-- homes are known by what each journal has
+pub same_homes : (f g : Homes) → SameHomes f g → f ≡ g
+same_homes f g h = λ i. record { default = h.default i; queue = λ name. h.queue name i; list = h.list i }
+
+pub homes_append : (S : MachineState) (cs ds : List (Option Command)) (homes : Homes) → homes_answered S (cs ++ ds) homes ≡ homes_answered (state_answered S cs) ds (homes_answered S cs homes)
+homes_append S [] ds homes = refl
+homes_append S (c ∷ cs) ds homes = homes_append (answer_line S c).0 cs ds (homes_by S c homes)
+
+pub step_in : (first : StoreState) (script before rest line kept : List ℕ) (s t : StoreState) (old mid new : Content) → lines before ≡ line ∷ lines rest → kept ≡ kept_of_line line
+    → IsUnderWay first script before s old mid → RunsLine s (command_of kept) t mid new → IsUnderWay first script rest t old new
+step_in first script before rest line kept s t old mid new cut is u r =
     let c : Option Command = command_of kept in
+    let Z : MachineState = state_of first in
+    let homes : Homes = homes_answered Z u.done (homes_of first) in
     let step : answer_line (state_of s) c ≡ answer_line (state_answered Z u.done) c = ap (λ (S : MachineState). answer_line S c) u.state in
     record {
       done = u.done ++ c ∷ [];
@@ -281,56 +276,58 @@ step_in given Z script before rest line kept s t old mid new cut is u r =
           ∙ ap (λ (a : List ℕ). old.now.answered ++ a)
           (ap (λ (a : List ℕ). answers_text Z u.done ++ a) (sym (append-nil (reply_text (answer_line (state_answered Z u.done) c).1))) ∙ sym (answers_append Z u.done (c ∷ [])));
       state = r.state ∙ ap (λ p. p.0) step ∙ sym (state_append Z u.done (c ∷ []));
-      rid = r.rid ∙ ap (λ (S : MachineState). rid_after S c (rid_of s)) u.state ∙ ap (rid_after (state_answered Z u.done) c) u.rid ∙ sym (rid_append Z u.done (c ∷ []) given);
+      rid = r.rid ∙ ap (λ (S : MachineState). rid_after S c (rid_of s)) u.state ∙ ap (rid_after (state_answered Z u.done) c) u.rid ∙ sym (rid_append Z u.done (c ∷ []) (rid_of first));
+      homes = subst (λ (f : Homes). SameHomes (homes_of t) f)
+          (ap (λ (S : MachineState). homes_by S c (homes_of s)) u.state ∙ ap (homes_by (state_answered Z u.done) c) (same_homes (homes_of s) homes u.homes) ∙ sym (homes_append Z u.done (c ∷ []) (homes_of first))) r.homes;
     }
 
-pub line_run : (given : ℕ) (Z : MachineState) (old mid new : Option Content) (script left rest : Option (List ℕ)) (a b : Cutter) (kept : List ℕ) (s t : StoreState)
-    → UnderWay given Z old mid script a.waiting left s → CutsTold a left b rest kept true → Tells (RunsLine s (command_of kept) t) mid new → UnderWay given Z old new script b.waiting rest t
-line_run given Z None mid new script left rest a b kept s t u cut r = tt
-line_run given Z (Some old) mid None script left rest a b kept s t u cut r = tt
-line_run given Z (Some old) mid (Some new) None left rest a b kept s t u cut r = tt
-line_run given Z (Some old) mid (Some new) (Some script) left None a b kept s t u cut r = tt
-line_run given Z (Some old) None (Some new) (Some script) left (Some m) a b kept s t u cut r = absurd r
-line_run given Z (Some old) (Some mid) (Some new) (Some script) None (Some m) a b kept s t u cut r = absurd cut
-line_run given Z (Some old) (Some mid) (Some new) (Some script) (Some l) (Some m) a b kept s t u cut r =
-    step_in given Z script (a.waiting ++ l) (b.waiting ++ m) cut.0 kept s t old mid new cut.1 cut.2 u r
+pub line_run : (first : StoreState) (old mid new : Option Content) (script left rest : Option (List ℕ)) (a b : Cutter) (kept : List ℕ) (s t : StoreState)
+    → UnderWay first old mid script a.waiting left s → CutsTold a left b rest kept true → Tells (RunsLine s (command_of kept) t) mid new → UnderWay first old new script b.waiting rest t
+line_run first None mid new script left rest a b kept s t u cut r = tt
+line_run first (Some old) mid None script left rest a b kept s t u cut r = tt
+line_run first (Some old) mid (Some new) None left rest a b kept s t u cut r = tt
+line_run first (Some old) mid (Some new) (Some script) left None a b kept s t u cut r = tt
+line_run first (Some old) None (Some new) (Some script) left (Some m) a b kept s t u cut r = absurd r
+line_run first (Some old) (Some mid) (Some new) (Some script) None (Some m) a b kept s t u cut r = absurd cut
+line_run first (Some old) (Some mid) (Some new) (Some script) (Some l) (Some m) a b kept s t u cut r =
+    step_in first script (a.waiting ++ l) (b.waiting ++ m) cut.0 kept s t old mid new cut.1 cut.2 u r
 
 -- ---- a run that ends since no file is left, or no record id of the prepared list
 
-module _ (first s : StoreState) (script before rest line kept : List ℕ) (hs : home_of s ≡ home_of first) (cut : lines before ≡ line ∷ lines rest) (is : kept ≡ kept_of_line line) where
-  ends_in : (old mid new : Content) → IsUnderWay (rid_of first) (state_of first) script before s old mid → Arrives IsStoreStep mid new → LineMeetsEnd (home_of s) (state_of s) (command_of kept) new.now.disk → MeetsEnd (home_of first) (state_of first) script old new
+module _ (first s : StoreState) (script before rest line kept : List ℕ) (cut : lines before ≡ line ∷ lines rest) (is : kept ≡ kept_of_line line) where
+  ends_in : (old mid new : Content) → IsUnderWay first script before s old mid → Arrives IsStoreStep mid new → LineMeetsEnd (homes_of s) (state_of s) (command_of kept) new.now.disk → MeetsEnd (homes_of first) (state_of first) script old new
   ends_in old mid new u arrives meets = record {
     done = u.done;
     next = command_of kept;
     rest = commands rest;
     split = cut_split script before rest line kept u.done u.split cut is;
     answered = answers_nothing mid new arrives ∙ u.answered;
-    meets = subst (λ (p : PoolId). LineMeetsEnd p (state_answered (state_of first) u.done) (command_of kept) new.now.disk) hs
-        (subst (λ (S : MachineState). LineMeetsEnd (home_of s) S (command_of kept) new.now.disk) u.state meets);
+    meets = subst (λ (f : Homes). LineMeetsEnd f (state_answered (state_of first) u.done) (command_of kept) new.now.disk) (same_homes (homes_of s) (homes_answered (state_of first) u.done (homes_of first)) u.homes)
+        (subst (λ (S : MachineState). LineMeetsEnd (homes_of s) S (command_of kept) new.now.disk) u.state meets);
   }
 
-  spent_in : (old mid new : Content) → IsUnderWay (rid_of first) (state_of first) script before s old mid → Arrives IsRunStep old mid → StaysClean first s old mid → LineStops s (command_of kept) mid new
-      → UnmarkedSince old new → IsClean first old.now.disk → MeetsEnd (home_of first) (state_of first) script old new
+  spent_in : (old mid new : Content) → IsUnderWay first script before s old mid → Arrives IsRunStep old mid → StaysClean first s old mid → LineStops s (command_of kept) mid new
+      → UnmarkedSince old new → IsClean first old.now.disk → MeetsEnd (homes_of first) (state_of first) script old new
   spent_in old mid new u went clean stops = λ unmarked begun.
       let k = stopped (command_of kept) mid new stops in
       let parts = unmarked_parts IsRunStep IsStoreStep old mid new went (Passes-of IsStoreStep mid new k.0) unmarked in
       ends_in old mid new u k.0 (k.1 parts.1 (clean parts.0 begun))
     where
-      stopped : (asked : Option Command) (x y : Content) → LineStops s asked x y → Arrives IsStoreStep x y × (UnmarkedSince x y → IsClean s x.now.disk → LineMeetsEnd (home_of s) (state_of s) asked y.now.disk)
+      stopped : (asked : Option Command) (x y : Content) → LineStops s asked x y → Arrives IsStoreStep x y × (UnmarkedSince x y → IsClean s x.now.disk → LineMeetsEnd (homes_of s) (state_of s) asked y.now.disk)
       stopped None x y stops = absurd stops
       stopped (Some c) x y stops = (stops.arrives, stops.meets)
 
-pub line_spent : (first s : StoreState) (old mid new : Option Content) (script left rest : Option (List ℕ)) (a b : Cutter) (kept : List ℕ) (limit : ℕ) → home_of s ≡ home_of first
-    → UnderWay (rid_of first) (state_of first) old mid script a.waiting left s → Counted limit script a.budget left (Ok true) → CutsTold a left b rest kept true → Tells (Arrives IsRunStep) old mid → Tells (StaysClean first s) old mid
+pub line_spent : (first s : StoreState) (old mid new : Option Content) (script left rest : Option (List ℕ)) (a b : Cutter) (kept : List ℕ) (limit : ℕ)
+    → UnderWay first old mid script a.waiting left s → Counted limit script a.budget left (Ok true) → CutsTold a left b rest kept true → Tells (Arrives IsRunStep) old mid → Tells (StaysClean first s) old mid
     → Tells (LineStops s (command_of kept)) mid new → EndsSpentIn first old new script
-line_spent first s None mid new script left rest a b kept limit hs u counted cut went clean stops = tt
-line_spent first s (Some old) mid None script left rest a b kept limit hs u counted cut went clean stops = tt
-line_spent first s (Some old) mid (Some new) None left rest a b kept limit hs u counted cut went clean stops = tt
-line_spent first s (Some old) None (Some new) (Some script) left rest a b kept limit hs u counted cut went clean stops = absurd stops
-line_spent first s (Some old) (Some mid) (Some new) (Some script) None rest a b kept limit hs u counted cut went clean stops = absurd counted
-line_spent first s (Some old) (Some mid) (Some new) (Some script) (Some l) None a b kept limit hs u counted cut went clean stops = absurd cut
-line_spent first s (Some old) (Some mid) (Some new) (Some script) (Some l) (Some m) a b kept limit hs u counted cut went clean stops =
-    spent_in first s script (a.waiting ++ l) (b.waiting ++ m) cut.0 kept hs cut.1 cut.2 old mid new u went clean stops
+line_spent first s None mid new script left rest a b kept limit u counted cut went clean stops = tt
+line_spent first s (Some old) mid None script left rest a b kept limit u counted cut went clean stops = tt
+line_spent first s (Some old) mid (Some new) None left rest a b kept limit u counted cut went clean stops = tt
+line_spent first s (Some old) None (Some new) (Some script) left rest a b kept limit u counted cut went clean stops = absurd stops
+line_spent first s (Some old) (Some mid) (Some new) (Some script) None rest a b kept limit u counted cut went clean stops = absurd counted
+line_spent first s (Some old) (Some mid) (Some new) (Some script) (Some l) None a b kept limit u counted cut went clean stops = absurd cut
+line_spent first s (Some old) (Some mid) (Some new) (Some script) (Some l) (Some m) a b kept limit u counted cut went clean stops =
+    spent_in first s script (a.waiting ++ l) (b.waiting ++ m) cut.0 kept cut.1 cut.2 old mid new u went clean stops
 
 -- no more was read than the limit, where a line ended the run
 pub read_so_far : (f : Fault) (a b : Option (List ℕ)) (budget : ℕ) → IsOfLine f → Counted script_limit a budget b (Ok true) → ReadsBytes (is_too_long (Err f)) a b
@@ -345,7 +342,6 @@ read_so_far f (Some l) (Some m) budget only h = subst (λ e. ReadBytes e l m) (s
     not_long fault.Memory only = refl
     not_long fault.Draw only = refl
     not_long fault.Spent only = refl
-    not_long fault.NotEmpty only = refl
     not_long fault.Damaged only = refl
 
 -- ---- the end of the script
@@ -354,33 +350,34 @@ nothing_left : (a b : List ℕ) → a ++ b ≡ [] → b ≡ []
 nothing_left [] b e = e
 nothing_left (x ∷ a) b e = absurd (cc)
 
-end_in : (given : ℕ) (Z : MachineState) (script : List ℕ) (rest : List ℕ) (was s : StoreState) (old new : Content) → MeansItsState → SaysItsRid → rest ≡ [] → IsUnderWay given Z script rest s old new → IsStore s → Fits s new.now.disk
-    → StaysQuiet old new → StaysClean was s old new → IsClean was old.now.disk → IsRun Z given script old new
-end_in given Z script rest was s old new means says none u store fits quiet clean begun =
+end_in : (first s : StoreState) (script : List ℕ) (rest : List ℕ) (old new : Content) → MeansItsState → SaysItsRid → rest ≡ [] → IsUnderWay first script rest s old new → IsStore s → Fits s new.now.disk
+    → StaysQuiet old new → StaysClean first s old new → IsRunClean first script old new
+end_in first s script rest old new means says none u store fits quiet clean =
+    let Z : MachineState = state_of first in
     let all : commands script ≡ u.done = u.split ∙ ap (λ (r : List ℕ). u.done ++ commands r) none ∙ append-nil u.done in
     record {
       answered = u.answered ∙ ap (λ cs. old.now.answered ++ answers_text Z cs) (sym all);
-      stored = λ q unmarked. subst (λ (S : MachineState). IsHeld S new.now.disk) (u.state ∙ ap (state_answered Z) (sym all)) (means s new.now.disk store fits (clean unmarked begun) (quiet q));
-      rid = λ unmarked. says s new.now.disk store fits (clean unmarked begun) ∙ u.rid ∙ ap (λ cs. rid_answered Z cs given) (sym all);
+      stored = λ q unmarked begun. subst (λ (S : MachineState). IsHeld S new.now.disk) (u.state ∙ ap (state_answered Z) (sym all)) (means s new.now.disk store fits (clean unmarked begun) (quiet q));
+      rid = λ unmarked begun. says s new.now.disk store fits (clean unmarked begun) ∙ u.rid ∙ ap (λ cs. rid_answered Z cs (rid_of first)) (sym all);
     }
 
-pub script_ended : (old new : Option Content) (script left rest : Option (List ℕ)) (a b : Cutter) (kept : List ℕ) (was s : StoreState) → MeansItsState → SaysItsRid
-    → UnderWay (rid_of was) (state_of was) old new script a.waiting left s → IsStore s → IfSome new (OnDisk (Fits s)) → Tells StaysQuiet old new → Tells (StaysClean was s) old new → CutsTold a left b rest kept false → EndsClean was old new script rest
-script_ended None new script left rest a b kept was s means says u store fits quiet clean cut = tt
-script_ended (Some old) None script left rest a b kept was s means says u store fits quiet clean cut = tt
-script_ended (Some old) (Some new) None left rest a b kept was s means says u store fits quiet clean cut = tt
-script_ended (Some old) (Some new) (Some script) left None a b kept was s means says u store fits quiet clean cut = tt
-script_ended (Some old) (Some new) (Some script) None (Some m) a b kept was s means says u store fits quiet clean cut = absurd cut
-script_ended (Some old) (Some new) (Some script) (Some l) (Some m) a b kept was s means says u store fits quiet clean cut =
-    λ begun. (nothing_left b.waiting m cut.1, end_in (rid_of was) (state_of was) script (a.waiting ++ l) was s old new means says cut.0 u store fits quiet clean begun)
+pub script_ended : (old new : Option Content) (script left rest : Option (List ℕ)) (a b : Cutter) (kept : List ℕ) (first s : StoreState) → MeansItsState → SaysItsRid
+    → UnderWay first old new script a.waiting left s → IsStore s → IfSome new (OnDisk (Fits s)) → Tells StaysQuiet old new → Tells (StaysClean first s) old new → CutsTold a left b rest kept false → EndsClean first old new script rest
+script_ended None new script left rest a b kept first s means says u store fits quiet clean cut = tt
+script_ended (Some old) None script left rest a b kept first s means says u store fits quiet clean cut = tt
+script_ended (Some old) (Some new) None left rest a b kept first s means says u store fits quiet clean cut = tt
+script_ended (Some old) (Some new) (Some script) left None a b kept first s means says u store fits quiet clean cut = tt
+script_ended (Some old) (Some new) (Some script) None (Some m) a b kept first s means says u store fits quiet clean cut = absurd cut
+script_ended (Some old) (Some new) (Some script) (Some l) (Some m) a b kept first s means says u store fits quiet clean cut =
+    (nothing_left b.waiting m cut.1, end_in first s script (a.waiting ++ l) old new means says cut.0 u store fits quiet clean)
 
 -- ---- the start
 
 -- nothing of the script is run yet
-pub begun : (s : StoreState) (o : Option Content) (script : Option (List ℕ)) → UnderWay (rid_of s) (state_of s) o o script [] script s
+pub begun : (s : StoreState) (o : Option Content) (script : Option (List ℕ)) → UnderWay s o o script [] script s
 begun s None script = tt
 begun s (Some c) None = tt
-begun s (Some c) (Some script) = record { done = []; split = refl; answered = sym (append-nil c.now.answered); state = refl; rid = refl }
+begun s (Some c) (Some script) = record { done = []; split = refl; answered = sym (append-nil c.now.answered); state = refl; rid = refl; homes = record { default = refl; queue = λ name. refl; list = refl } }
 
 -- ---- one more line
 
@@ -395,9 +392,6 @@ line_fits was line s None None r = tt
 line_fits was line s None (Some c) r = absurd r
 line_fits was line s (Some b) None r = absurd r
 line_fits was line s (Some b) (Some c) r = r.fits
-
-pub line_rests : (was : StoreState) (line : Option Command) (s : StoreState) (a b c : Option Content) → Tells StaysQuiet a b → Tells (RunsLine was line s) b c → Tells StaysQuiet a c
-line_rests was line s a b c g r = Tells-then StaysQuiet (RunsLine was line s) StaysQuiet a b c g r (λ x y z h k q. k.quiet (h q))
 
 -- the call arrived, and where nothing was pending it answered quietly
 abbrev pub Quieted : Content → Content → Type 0
@@ -460,35 +454,6 @@ line_clean first was s line a b c g h r =
 
 -- ---- by the status
 
-stays_in : (status : ℕ) (r : Result (Unit {0}) Fault) (i : Image) (old new : Content) → StartsOn i (Some old) (Some new) r → status ≡ status_of_result r → (MayBegin i → ⊥) → (refuses_status status ≡ true) × StaysAsItWas old new
-stays_in status r i old new h e some = let is = h.0 some in (ap refuses_status e ∙ refused r is.0, is.1)
-  where
-    refused : (r : Result (Unit {0}) Fault) → refuses_start r ≡ true → refuses_status (status_of_result r) ≡ true
-    refused (Ok x) h = absurd (cc)
-    refused (Err fault.NotEmpty) h = refl
-    refused (Err fault.Site) h = refl
-    refused (Err fault.Memory) h = refl
-    refused (Err fault.Source) h = absurd (cc)
-    refused (Err fault.TooLong) h = absurd (cc)
-    refused (Err fault.Draw) h = absurd (cc)
-    refused (Err fault.Spent) h = absurd (cc)
-    refused (Err fault.Damaged) h = absurd (cc)
-
-pub starts_with : (status : ℕ) (r : Result (Unit {0}) Fault) (old new : Option Content) → Starts old new r → status ≡ status_of_result r → StartsWith old new status
-starts_with status r None new h e = tt
-starts_with status r (Some old) None h e = tt
-starts_with status r (Some old) (Some new) h e = stays_in status r (full old.now.disk) old new h e
-
-pub status_same : (f : Fault) → status_of f ≡ status_of_result (Err f)
-status_same fault.Source = refl
-status_same fault.Site = refl
-status_same fault.Memory = refl
-status_same fault.TooLong = refl
-status_same fault.Draw = refl
-status_same fault.Spent = refl
-status_same fault.NotEmpty = refl
-status_same fault.Damaged = refl
-
 -- the statuses at which each number drawn is the serial of a file
 pub exact_status : (f : Fault) → is_exact_status (status_of f) ≡ is_exact {X = Unit {0}} (Err f)
 exact_status fault.Source = refl
@@ -497,32 +462,4 @@ exact_status fault.Memory = refl
 exact_status fault.TooLong = refl
 exact_status fault.Draw = refl
 exact_status fault.Spent = refl
-exact_status fault.NotEmpty = refl
 exact_status fault.Damaged = refl
-
--- status 9 comes of this fault alone
-pub spent_status : (f : Fault) (status : ℕ) → status ≡ status_of f → status ≡ 9 → f ≡ fault.Spent
-spent_status fault.Spent status e nine = refl
-spent_status fault.Source status e nine = absurd (omega (arith, e, nine))
-spent_status fault.Site status e nine = absurd (omega (arith, e, nine))
-spent_status fault.Memory status e nine = absurd (omega (arith, e, nine))
-spent_status fault.TooLong status e nine = absurd (omega (arith, e, nine))
-spent_status fault.Draw status e nine = absurd (omega (arith, e, nine))
-spent_status fault.NotEmpty status e nine = absurd (omega (arith, e, nine))
-spent_status fault.Damaged status e nine = absurd (omega (arith, e, nine))
-
--- status 10 too
-pub not_begun_in : (f : Fault) (status : ℕ) → status ≡ status_of f → status ≡ 10 → f ≡ fault.NotEmpty
-not_begun_in fault.NotEmpty status e ten = refl
-not_begun_in fault.Source status e ten = absurd (omega (arith, e, ten))
-not_begun_in fault.Site status e ten = absurd (omega (arith, e, ten))
-not_begun_in fault.Memory status e ten = absurd (omega (arith, e, ten))
-not_begun_in fault.TooLong status e ten = absurd (omega (arith, e, ten))
-not_begun_in fault.Draw status e ten = absurd (omega (arith, e, ten))
-not_begun_in fault.Spent status e ten = absurd (omega (arith, e, ten))
-not_begun_in fault.Damaged status e ten = absurd (omega (arith, e, ten))
-
-pub may_not_begin : (f : Fault) (old new : Option Content) (status : ℕ) → status ≡ status_of f → status ≡ 10 → Starts old new (Err f) → Tells (λ x y. Unit {0}) old new → MayNotBegin old
-may_not_begin f None new status e ten h t = tt
-may_not_begin f (Some old) None status e ten h t = absurd t
-may_not_begin f (Some old) (Some new) status e ten h t = h.1 (ap Err (not_begun_in f status e ten))

@@ -1,29 +1,32 @@
 -- What the disk holds at each reply: line by line, and over a whole run.
-use Rattle.std.proofs.Common.{◌≡◌, inl, inr, ℕ, zero, suc, true, List, [], ◌∷◌, ◌++◌, replicate, Option, Some, None, Ok, refl, sym, ap, ◌∙◌, subst, append_assoc, append-nil}
+use Rattle.std.proofs.Common.{◌≡◌, inl, inr, ℕ, true, List, [], ◌∷◌, ◌++◌, Option, Some, None, Ok, refl, sym, ap, ◌∙◌, subst, append_assoc, append-nil}
 use Rattle.qls_model.specs.declared.machine.PoolId.{PoolId}
 use Rattle.qls_model.specs.declared.machine.Command.{Command}
-use Rattle.qls_model.specs.Machine.{MachineState, empty_state}
-use Rattle.qls_site.specs.Disk.{IsQuiet}
+use Rattle.qls_model.specs.Machine.{MachineState}
+use Rattle.qls_site.specs.Disk.{IsQuiet, full}
 use Rattle.qls_site.specs.Content.{Content, Moment, Tells, moments_since, on_answered}
 use Rattle.qls_meaning.specs.History.{AllUnmarked}
+use Rattle.qls_meaning.specs.Meaning.{meaning}
 use Rattle.qls_command.specs.Lines.{lines, commands, command_of}
 use Rattle.qls_model.specs.declared.machine.Reply.{Reply}
 use Rattle.qls_command.specs.Texts.{reply_text}
 use Rattle.qls_top.specs.Answers.{answer_line, state_answered, answers_text}
 use Rattle.qls_top.specs.Cutting.{Cutter, kept_of_line, CutsTold, Counted}
 use Rattle.qls_pool.specs.Moments.{Chain, Passes, Arrives}
-use Rattle.qls_store.specs.Stores.{StoreState, state_of, home_of, rid_of, IsStore, IsClean}
+use Rattle.qls_store.specs.Stores.{StoreState, state_of, IsStore, IsClean}
 use Rattle.qls_journals.specs.Moments.{IsStoreStep}
 use Rattle.qls_top.specs.Moments.{AddsAnswer, AtReplies, IsRunStep, UnmarkedSince}
 use Rattle.qls_top.specs.Held.{IsHeld}
 use Rattle.qls_top.specs.Running.{RepliesLine}
-use Rattle.qls_top.specs.Run.{IsUnderWay, UnderWay, StaysClean, IsReplied, RepliesIn, RepliesStored, RepliesClean}
+use Rattle.qls_top.specs.Run.{IsUnderWay, UnderWay, StaysClean, IsReplied, RepliesIn, RepliesFrom, RepliesStored, RepliesClean}
 use Rattle.qls_pool.proofs.Moments.{chain-append, chain_weaken, Arrives-same, Passes-of, since_is, since_of, since_then}
 use Rattle.qls_top.proofs.Chains.{answers_nothing, unmarked_front, unmarked_parts}
 use Rattle.qls_top.proofs.Holding.{MeansItsState}
+use Rattle.qls_top.proofs.Discipline.{Silent}
+use Rattle.qls_top.proofs.LineDiscipline.{chain_then, silent_chain}
 use Rattle.qls_top.proofs.Lines.{Commanded, Quieted, answers_append, state_append, cut_split}
-use Rattle.qls_top.proofs.Beginning.{Looked}
-use Rattle.qls_top.proofs.Starting.{IsNew, clean_nothing}
+use Rattle.qls_top.proofs.Beginning.{Opened}
+use Rattle.qls_top.proofs.Starting.{one_meaning}
 
 -- ---- a line
 
@@ -85,11 +88,12 @@ replies_none s (Some c) (Some script) = λ quiet unmarked clean.
     subst (λ (ms : List Moment). Chain (AtReplies (IsReplied (state_of s) script c.now.answered)) c.now ms) (sym (since_of IsRunStep c c (Arrives-same IsRunStep c c refl))) tt
 
 -- what a line's answer says is what a run's reply says
-reply_of : (given : ℕ) (S : MachineState) (script before rest line kept : List ℕ) (was : StoreState) (old mid : Content) (n : Moment) → lines before ≡ line ∷ lines rest → kept ≡ kept_of_line line
-    → IsUnderWay given S script before was old mid → n.answered ≡ mid.now.answered ++ reply_text (answer_line (state_of was) (command_of kept)).1
-    → IsHeld (answer_line (state_of was) (command_of kept)).0 n.disk → IsReplied S script old.now.answered n
-reply_of given S script before rest line kept was old mid n cut is u said holds =
+reply_of : (first : StoreState) (script before rest line kept : List ℕ) (was : StoreState) (old mid : Content) (n : Moment) → lines before ≡ line ∷ lines rest → kept ≡ kept_of_line line
+    → IsUnderWay first script before was old mid → n.answered ≡ mid.now.answered ++ reply_text (answer_line (state_of was) (command_of kept)).1
+    → IsHeld (answer_line (state_of was) (command_of kept)).0 n.disk → IsReplied (state_of first) script old.now.answered n
+reply_of first script before rest line kept was old mid n cut is u said holds =
     let c : Option Command = command_of kept in
+    let S : MachineState = state_of first in
     let step : answer_line (state_of was) c ≡ answer_line (state_answered S u.done) c = ap (λ (T : MachineState). answer_line T c) u.state in
     let text : List ℕ = reply_text (answer_line (state_answered S u.done) c).1 in
     record {
@@ -112,9 +116,9 @@ module _ (first was : StoreState) (script before rest line kept : List ℕ) (cut
   abbrev Said : Content → Moment → Type 0
   Said y n = (n.answered ≡ y.now.answered ++ reply_text (answer_line (state_of was) (command_of kept)).1) × IsHeld (answer_line (state_of was) (command_of kept)).0 n.disk
 
-  replies_in : (x y z : Content) → IsUnderWay (rid_of first) (state_of first) script before was x y → Arrives IsRunStep x y → Quieted x y → StaysClean first was x y
-      → (IsQuiet x.now.disk → UnmarkedSince x y → IsClean first x.now.disk → RepliesIn (home_of first) (state_of first) script x y) → Passes IsRunStep y z → RepliesLine was (command_of kept) y z
-      → IsQuiet x.now.disk → UnmarkedSince x z → IsClean first x.now.disk → RepliesIn (home_of first) (state_of first) script x z
+  replies_in : (x y z : Content) → IsUnderWay first script before was x y → Arrives IsRunStep x y → Quieted x y → StaysClean first was x y
+      → (IsQuiet x.now.disk → UnmarkedSince x y → IsClean first x.now.disk → RepliesIn (state_of first) script x y) → Passes IsRunStep y z → RepliesLine was (command_of kept) y z
+      → IsQuiet x.now.disk → UnmarkedSince x z → IsClean first x.now.disk → RepliesIn (state_of first) script x z
   replies_in x y z u h q clean so_far k l = λ quiet unmarked begun.
       let P : Moment → Type 0 = IsReplied (state_of first) script x.now.answered in
       let xs : List Moment = h.since in
@@ -126,10 +130,10 @@ module _ (first was : StoreState) (script before rest line kept : List ℕ) (cut
       (chain-append (AtReplies P) x.now xs ys (subst (λ (ms : List Moment). Chain (AtReplies P) x.now ms) (since_of IsRunStep x y h) (so_far quiet parts.0 begun))
       (subst (λ (m : Moment). Chain (AtReplies P) m ys) h.last
       (chain_weaken (AtReplies (Said y)) (AtReplies P)
-      (at_replies (Said y) P (λ n p. reply_of (rid_of first) (state_of first) script before rest line kept was x y n cut is u p.0 p.1)) y.now ys said)))
+      (at_replies (Said y) P (λ n p. reply_of first script before rest line kept was x y n cut is u p.0 p.1)) y.now ys said)))
 
 pub line_replies : (first was : StoreState) (old mid new : Option Content) (script left rest : Option (List ℕ)) (a b : Cutter) (kept : List ℕ) (limit : ℕ)
-    → UnderWay (rid_of first) (state_of first) old mid script a.waiting left was → Counted limit script a.budget left (Ok true) → CutsTold a left b rest kept true → Tells (Arrives IsRunStep) old mid → Tells Quieted old mid
+    → UnderWay first old mid script a.waiting left was → Counted limit script a.budget left (Ok true) → CutsTold a left b rest kept true → Tells (Arrives IsRunStep) old mid → Tells Quieted old mid
     → Tells (StaysClean first was) old mid → RepliesClean first old mid script → Tells (Passes IsRunStep) mid new → Tells (RepliesLine was (command_of kept)) mid new → RepliesClean first old new script
 line_replies first was None mid new script left rest a b kept limit u counted cut h q clean so_far k l = tt
 line_replies first was (Some x) mid None script left rest a b kept limit u counted cut h q clean so_far k l = tt
@@ -142,41 +146,35 @@ line_replies first was (Some x) (Some y) (Some z) (Some script) (Some l) (Some m
 
 -- ---- a run from its first call
 
-pub again_chain : (P : Moment → Type 0) (m : Moment) (n : ℕ) → Chain (AtReplies P) m (replicate n m)
-again_chain P m zero = tt
-again_chain P m (suc n) = (inl refl, again_chain P m n)
+replies_from : (home : PoolId) (s : StoreState) (script : List ℕ) (x y z : Content) → Opened home s x y → Passes IsRunStep y z → (IsQuiet y.now.disk → UnmarkedSince y z → IsClean s y.now.disk → RepliesIn (state_of s) script y z)
+    → UnmarkedSince x z → RepliesIn (state_of s) script x z
+replies_from home s script x y z o k so_far = λ unmarked.
+    let P : Moment → Type 0 = IsReplied (state_of s) script x.now.answered in
+    let arrives : Arrives IsStoreStep x y = o.opens.arrives in
+    let parts = unmarked_parts IsStoreStep IsRunStep x y z arrives k unmarked in
+    let said : Chain (AtReplies P) y.now (moments_since y z) =
+    subst (λ (a : List ℕ). Chain (AtReplies (IsReplied (state_of s) script a)) y.now (moments_since y z)) (answers_nothing x y arrives) (so_far o.opens.quiet parts.1 (o.opens.clean parts.0)) in
+    chain_then (AtReplies P) IsStoreStep IsRunStep x y z arrives k (chain_weaken Silent (AtReplies P) (λ m n e. inl e) x.now (moments_since x y) (silent_chain x y (Passes-of IsStoreStep x y arrives))) said
 
-replies_from : (home : PoolId) (S : MachineState) (script : List ℕ) (x y z : Content) → Looked x y → Passes IsRunStep y z → (IsQuiet y.now.disk → UnmarkedSince y z → RepliesIn home S script y z)
-    → IsQuiet x.now.disk → UnmarkedSince x z → RepliesIn home S script x z
-replies_from home S script x y z h k so_far = λ quiet unmarked.
+replies_since : (home : PoolId) (s : StoreState) (x y : Content) (c : Option Content) (script : Option (List ℕ)) → Opened home s x y → Tells (Passes IsRunStep) (Some y) c → RepliesClean s (Some y) c script → RepliesFrom (state_of s) (Some x) c script
+replies_since home s x y None script o k r = tt
+replies_since home s x y (Some z) None o k r = tt
+replies_since home s x y (Some z) (Some script) o k r = λ quiet. replies_from home s script x y z o k r
+
+pub run_replies : (home : PoolId) (s : StoreState) (a b c : Option Content) (script : Option (List ℕ)) → Tells (Opened home s) a b → Tells (Passes IsRunStep) b c → RepliesClean s b c script → RepliesStored a c script
+run_replies home s None b c script h k r = tt
+run_replies home s (Some x) None c script h k r = absurd h
+run_replies home s (Some x) (Some y) c script h k r = λ S is.
+    subst (λ (T : MachineState). RepliesFrom T (Some x) c script) (one_meaning (meaning (full x.now.disk)) (state_of s) S h.means is) (replies_since home s x y c script h k r)
+
+-- the store couldn't be opened
+opening_replies_in : (S : MachineState) (script : List ℕ) (x y : Content) → Passes IsStoreStep x y → RepliesIn S script x y
+opening_replies_in S script x y h =
     let P : Moment → Type 0 = IsReplied S script x.now.answered in
-    let ys : List Moment = k.since in
-    let split : moments_since x z ≡ h.arrives.since ++ ys = since_then IsRunStep IsRunStep x y z (Passes-of IsRunStep x y h.arrives) k in
-    let back : UnmarkedSince y z = (unmarked_parts IsRunStep IsRunStep x y z h.arrives k unmarked).1 in
-    let said : Chain (AtReplies P) y.now ys =
-    subst (λ (ms : List Moment). Chain (AtReplies P) y.now ms) (since_is IsRunStep y z k)
-    (subst (λ (a : List ℕ). Chain (AtReplies (IsReplied S script a)) y.now (moments_since y z)) (ap (λ (m : Moment). m.answered) h.now) (so_far (subst (λ (m : Moment). IsQuiet m.disk) (sym h.now) quiet) back)) in
-    subst (λ (ms : List Moment). Chain (AtReplies P) x.now ms) (sym split)
-    (chain-append (AtReplies P) x.now h.arrives.since ys (same_chain P x.now h.arrives.since h.stays_since) (subst (λ (m : Moment). Chain (AtReplies P) m ys) h.arrives.last said))
-  where
-    same_chain : (P : Moment → Type 0) (m : Moment) (ms : List Moment) → ((n : ℕ) × (ms ≡ replicate n m)) → Chain (AtReplies P) m ms
-    same_chain P m ms (n, e) = subst (λ (ns : List Moment). Chain (AtReplies P) m ns) (sym e) (again_chain P m n)
+    chain_weaken Silent (AtReplies P) (λ m n e. inl e) x.now (moments_since x y) (silent_chain x y h)
 
-pub run_replies : (home : PoolId) (s : StoreState) (a b c : Option Content) (script : Option (List ℕ)) → IsNew home s → Tells Looked a b → Tells (Passes IsRunStep) b c
-    → RepliesClean s b c script → RepliesStored home a c script
-run_replies home s None b c script new h k r = tt
-run_replies home s (Some x) b None script new h k r = tt
-run_replies home s (Some x) b (Some z) None new h k r = tt
-run_replies home s (Some x) None (Some z) (Some script) new h k r = absurd h
-run_replies home s (Some x) (Some y) (Some z) (Some script) new h k r =
-    replies_from home empty_state script x y z h k
-    (λ quiet unmarked. subst (λ (p : PoolId). RepliesIn p empty_state script y z) new.home (subst (λ (S : MachineState). RepliesIn (home_of s) S script y z) new.state (r quiet unmarked (clean_nothing home s y.now.disk new))))
-
--- only the scan was made
-pub looked_replies : (home : PoolId) (a b : Option Content) (script : Option (List ℕ)) → Tells Looked a b → RepliesStored home a b script
-looked_replies home None b script h = tt
-looked_replies home (Some x) None script h = tt
-looked_replies home (Some x) (Some y) None h = tt
-looked_replies home (Some x) (Some y) (Some script) h = λ quiet unmarked.
-    subst (λ (ms : List Moment). Chain (AtReplies (IsReplied empty_state script x.now.answered)) x.now ms) (sym (since_of IsRunStep x y h.arrives ∙ h.stays_since.1))
-    (again_chain (IsReplied empty_state script x.now.answered) x.now h.stays_since.0)
+pub opening_replies : (a b : Option Content) (script : Option (List ℕ)) → Tells (Passes IsStoreStep) a b → RepliesStored a b script
+opening_replies None b script h = tt
+opening_replies (Some x) None script h = absurd h
+opening_replies (Some x) (Some y) None h = λ S is. tt
+opening_replies (Some x) (Some y) (Some script) h = λ S is quiet unmarked. opening_replies_in S script x y h

@@ -1,39 +1,30 @@
 -- The commands of a run at work: what their files do from each moment to the next, line after line.
-use Rattle.std.proofs.Common.{◌≡◌, ℕ, true, List, [], ◌∷◌, ◌++◌, Option, Some, None, option_map, IfSome, Ok, refl, sym, ap, ◌∙◌, subst, append_assoc, append-nil}
+use Rattle.std.proofs.Common.{◌≡◌, ℕ, true, List, [], ◌∷◌, ◌++◌, Option, Some, None, Ok, refl, sym, ap, ◌∙◌, subst, append_assoc, append-nil}
 use Rattle.qls_model.specs.declared.machine.PoolId.{PoolId}
 use Rattle.qls_model.specs.declared.machine.Command.{Command}
-use Rattle.qls_model.specs.Machine.{MachineState, empty_state}
-use Rattle.qls_site.specs.Disk.{IdsRise, full}
-use Rattle.qls_site.specs.Content.{Moment, Content, Tells, OnlyLooks, moments_since}
+use Rattle.qls_model.specs.Machine.{MachineState}
+use Rattle.qls_site.specs.Disk.{full}
+use Rattle.qls_site.specs.Content.{Moment, Content, Tells, moments_since}
+use Rattle.qls_meaning.specs.Meaning.{meaning}
 use Rattle.qls_command.specs.Lines.{lines, commands, command_of}
 use Rattle.qls_command.specs.Texts.{reply_text}
-use Rattle.qls_pool.specs.Files.{IdsDiffer}
 use Rattle.qls_pool.specs.Moments.{Chain, Passes, Arrives}
 use Rattle.qls_pool.proofs.Moments.{chain_weaken, Passes-of}
-use Rattle.qls_queue.specs.Live.{LiveState}
-use Rattle.qls_journals.specs.State.{queue_held}
-use Rattle.qls_journals.specs.Homes.{Homes, SameHomes, TakesFromHome, no_homes}
+use Rattle.qls_journals.specs.Homes.{Homes, SameHomes, TakesFromHome, homes_on}
+use Rattle.qls_journals.specs.Moments.{IsStoreStep}
 use Rattle.qls_store.specs.Stores.{StoreState, state_of}
 use Rattle.qls_store.specs.Homes.{homes_of, is_accepted}
 use Rattle.qls_top.specs.Answers.{answer_line, state_answered, answers_text}
 use Rattle.qls_top.specs.Cutting.{Cutter, kept_of_line, CutsTold, Counted}
 use Rattle.qls_top.specs.Moments.{IsRunStep}
 use Rattle.qls_top.specs.Running.{RunsLine, UnderLine, IsUnderLine, homes_by}
-use Rattle.qls_top.specs.Run.{IsAtWork, StaysIfRefused, WorksFrom, WorksIn, WorksOnCommands, homes_answered, homes_at_work}
-use Rattle.qls_top.proofs.Discipline.{same_pools}
-use Rattle.qls_top.proofs.FirstMoments.{SameMoment, looks_again, same_moments}
-use Rattle.qls_top.proofs.LineDiscipline.{since_none, chain_then}
-use Rattle.qls_top.proofs.Lines.{answers_append, state_append, cut_split}
-use Rattle.qls_top.proofs.Starting.{IsNew, differ_of}
-
--- ---- the pools of queues, line after line
-
-same_homes : (f g : Homes) → SameHomes f g → f ≡ g
-same_homes f g h = λ i. record { default = h.default i; queue = λ name. h.queue name i }
-
-homes_append : (S : MachineState) (cs ds : List (Option Command)) (homes : Homes) → homes_answered S (cs ++ ds) homes ≡ homes_answered (state_answered S cs) ds (homes_answered S cs homes)
-homes_append S [] ds homes = refl
-homes_append S (c ∷ cs) ds homes = homes_append (answer_line S c).0 cs ds (homes_by S c homes)
+use Rattle.qls_top.specs.Run.{IsAtWork, IsOpening, WorksSinceOpening, WorksOpened, WorksFrom, WorksIn, WorksOnCommands, homes_answered}
+use Rattle.qls_top.proofs.Beginning.{Opened}
+use Rattle.qls_top.proofs.Chains.{answers_nothing}
+use Rattle.qls_top.proofs.Discipline.{Silent}
+use Rattle.qls_top.proofs.LineDiscipline.{since_none, since_split, last_since, chain_then, passes_chain, silent_chain}
+use Rattle.qls_top.proofs.Lines.{answers_append, state_append, cut_split, same_homes, homes_append}
+use Rattle.qls_top.proofs.Starting.{one_meaning}
 
 -- ---- so far
 
@@ -60,7 +51,7 @@ worked_none s (Some c) (Some script) = record {
   split = refl;
   answered = sym (append-nil c.now.answered);
   state = refl;
-  homes = record { default = refl; queue = λ name. refl };
+  homes = record { default = refl; queue = λ name. refl; list = refl };
   works = subst (λ (ms : List Moment). Chain (IsAtWork (state_of s) (homes_of s) script c.now.answered) c.now ms) (sym (since_none c c refl)) tt;
 }
 
@@ -83,7 +74,7 @@ module _ (first was : StoreState) (script before rest line kept : List ℕ) (cut
   splits : commands script ≡ h.done ++ command ∷ commands rest
   splits = cut_split script before rest line kept h.done h.split cut is
 
-  -- the pools while the line is at work
+  -- the homes while the line is at work
   pools_by : homes_by (state_of was) command (homes_of was) ≡ homes_by here command homes_here
   pools_by =
       ap (λ (S : MachineState). homes_by S command (homes_of was)) h.state
@@ -163,48 +154,59 @@ none_works S homes (Some c) (Some script) = subst (λ (ms : List Moment). Chain 
 
 -- ---- a run from its first call
 
-again_at_work : (S : MachineState) (homes : Homes) (script : List ℕ) (m : Moment) → IdsDiffer m.disk → IsAtWork S homes script m.answered m m
-again_at_work S homes script m differ = record {
-  done = [];
-  rest = commands script;
-  split = refl;
-  answered = sym (append-nil m.answered);
-  pools = same_pools (homes_at_work S (commands script) homes) m m differ refl;
-  still = stays (commands script);
+-- while the store is opened
+opening_chain : (homes : Homes) (before : List ℕ) (m : Moment) (ms : List Moment) → m.answered ≡ before → Chain Silent m ms → Chain (TakesFromHome homes) m ms → Chain (IsOpening homes before) m ms
+opening_chain homes before m [] at silent pools = tt
+opening_chain homes before m (n ∷ ns) at silent pools = (record { answered = at; pools = pools.0 }, opening_chain homes before n ns (silent.0 ∙ at) silent.1 pools.1)
+
+-- from each content on the files that come into use are of the homes that its disk gives
+abbrev pub TakesFromStart : PoolId → Content → Content → Type 0
+TakesFromStart home a b = Passes (TakesFromHome (homes_on home a.now.disk)) a b
+
+opening_works_in : (home : PoolId) (x y : Content) → Passes IsStoreStep x y → TakesFromStart home x y → Chain (IsOpening (homes_on home x.now.disk) x.now.answered) x.now (moments_since x y)
+opening_works_in home x y h pools =
+    opening_chain (homes_on home x.now.disk) x.now.answered x.now (moments_since x y) refl (silent_chain x y h) (passes_chain (TakesFromHome (homes_on home x.now.disk)) x y pools)
+
+-- the store couldn't be opened
+opening_alone : (home : PoolId) (S : MachineState) (x y : Content) (script : List ℕ) → Passes IsStoreStep x y → TakesFromStart home x y → WorksSinceOpening (homes_on home x.now.disk) S script x y
+opening_alone home S x y script h pools = record {
+  opening = moments_since x y;
+  lines = [];
+  split = sym (append-nil (moments_since x y));
+  opens = opening_works_in home x y h pools;
+  works = tt;
 }
-  where
-    stays : (cs : List (Option Command)) → StaysIfRefused S cs m m
-    stays [] = tt
-    stays (c ∷ cs) = λ e. refl
 
-looked_at_work : (S : MachineState) (homes : Homes) (script : List ℕ) (x y : Content) → IdsDiffer x.now.disk → OnlyLooks x y → Chain (IsAtWork S homes script x.now.answered) x.now (moments_since x y)
-looked_at_work S homes script x y differ looks = same_moments (IsAtWork S homes script x.now.answered) x y (again_at_work S homes script x.now differ) looks
+pub opening_works : (home : PoolId) (a b : Option Content) (script : Option (List ℕ)) → Tells (Passes IsStoreStep) a b → Tells (TakesFromStart home) a b → WorksOnCommands home a b script
+opening_works home None b script h pools = tt
+opening_works home (Some x) None script h pools = absurd h
+opening_works home (Some x) (Some y) None h pools = λ S is. tt
+opening_works home (Some x) (Some y) (Some script) h pools = λ S is. opening_alone home S x y script h pools
 
--- the scan alone
-pub looked_works : (home : PoolId) (a b : Option Content) (script : Option (List ℕ)) → IfSome a (λ c. IdsRise (full c.now.disk)) → Tells OnlyLooks a b → WorksOnCommands home a b script
-looked_works home None b script rise h = tt
-looked_works home (Some x) None script rise h = tt
-looked_works home (Some x) (Some y) None rise h = tt
-looked_works home (Some x) (Some y) (Some script) rise h = looked_at_work empty_state (no_homes home) script x y (differ_of (full x.now.disk) rise) h
+-- and the lines
+works_from : (home : PoolId) (s : StoreState) (script : List ℕ) (x y z : Content) → Opened home s x y → TakesFromStart home x y → Passes IsRunStep y z → Chain (IsAtWork (state_of s) (homes_of s) script y.now.answered) y.now (moments_since y z)
+    → WorksSinceOpening (homes_on home x.now.disk) (state_of s) script x z
+works_from home s script x y z o pools k works =
+    let arrives : Arrives IsStoreStep x y = o.opens.arrives in
+    record {
+      opening = moments_since x y;
+      lines = moments_since y z;
+      split = since_split IsStoreStep IsRunStep x y z arrives k;
+      opens = opening_works_in home x y (Passes-of IsStoreStep x y arrives) pools;
+      works = subst (λ (m : Moment). Chain (IsAtWork (state_of s) (homes_on home x.now.disk) script x.now.answered) m (moments_since y z)) (sym (last_since IsStoreStep x y arrives))
+          (subst (λ (a : List ℕ). Chain (IsAtWork (state_of s) (homes_on home x.now.disk) script a) y.now (moments_since y z)) (answers_nothing x y arrives)
+          (subst (λ (f : Homes). Chain (IsAtWork (state_of s) f script y.now.answered) y.now (moments_since y z)) o.homes works));
+    }
 
-no_queues : (home : PoolId) (s : StoreState) → IsNew home s → homes_of s ≡ no_homes home
-no_queues home s new =
-    same_homes (homes_of s) (no_homes home) (record { default = new.home; queue = λ name. ap (λ (qs : List LiveState). option_map (λ (q : LiveState). q.log.opening.home) (queue_held name qs)) new.queues })
+works_since : (home : PoolId) (s : StoreState) (x y : Content) (c : Option Content) (script : Option (List ℕ)) → Opened home s x y → TakesFromStart home x y → Tells (Passes IsRunStep) (Some y) c → WorksIn s (Some y) c script
+    → WorksOpened (homes_on home x.now.disk) (state_of s) (Some x) c script
+works_since home s x y None script o pools k works = tt
+works_since home s x y (Some z) None o pools k works = tt
+works_since home s x y (Some z) (Some script) o pools k works = works_from home s script x y z o pools k works
 
-ran_at_work : (S : MachineState) (homes : Homes) (script : List ℕ) (x y z : Content) → IdsDiffer x.now.disk → OnlyLooks x y → Passes IsRunStep y z → Chain (IsAtWork S homes script y.now.answered) y.now (moments_since y z)
-    → Chain (IsAtWork S homes script x.now.answered) x.now (moments_since x z)
-ran_at_work S homes script x y z differ looks k works =
-    chain_then (IsAtWork S homes script x.now.answered) SameMoment IsRunStep x y z (looks_again x y looks) k (looked_at_work S homes script x y differ looks)
-    (subst (λ (m : Moment). Chain (IsAtWork S homes script m.answered) y.now (moments_since y z)) looks.now works)
-
--- and then the lines
-pub run_works : (home : PoolId) (s : StoreState) (a b c : Option Content) (script : Option (List ℕ)) → IsNew home s → IfSome a (λ c. IdsRise (full c.now.disk)) → Tells OnlyLooks a b
-    → Tells (Passes IsRunStep) b c → WorksIn s b c script → WorksOnCommands home a c script
-run_works home s None b c script new rise h k works = tt
-run_works home s (Some x) b None script new rise h k works = tt
-run_works home s (Some x) b (Some z) None new rise h k works = tt
-run_works home s (Some x) None (Some z) (Some script) new rise h k works = absurd h
-run_works home s (Some x) (Some y) (Some z) (Some script) new rise h k works =
-    ran_at_work empty_state (no_homes home) script x y z (differ_of (full x.now.disk) rise) h k
-    (subst (λ (f : Homes). WorksFrom empty_state f (Some y) (Some z) (Some script)) (no_queues home s new)
-    (subst (λ (S : MachineState). WorksFrom S (homes_of s) (Some y) (Some z) (Some script)) new.state works))
+pub run_works : (home : PoolId) (s : StoreState) (a b c : Option Content) (script : Option (List ℕ)) → Tells (Opened home s) a b → Tells (TakesFromStart home) a b → Tells (Passes IsRunStep) b c → WorksIn s b c script
+    → WorksOnCommands home a c script
+run_works home s None b c script h pools k works = tt
+run_works home s (Some x) None c script h pools k works = absurd h
+run_works home s (Some x) (Some y) c script h pools k works = λ S is.
+    subst (λ (T : MachineState). WorksOpened (homes_on home x.now.disk) T (Some x) c script) (one_meaning (meaning (full x.now.disk)) (state_of s) S h.means is) (works_since home s x y c script h pools k works)

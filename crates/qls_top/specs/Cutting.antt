@@ -44,7 +44,6 @@ is_of_script fault.Memory = true
 is_of_script fault.Site = false
 is_of_script fault.Draw = false
 is_of_script fault.Spent = false
-is_of_script fault.NotEmpty = false
 is_of_script fault.Damaged = false
 
 -- nothing was left, or one byte was read; a read that failed took nothing

@@ -9,3 +9,4 @@ pub mod Causes
 pub mod Running
 pub mod Run
 pub mod Shows
+pub mod Due

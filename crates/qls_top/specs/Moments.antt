@@ -5,8 +5,7 @@ use Rattle.qls_site.specs.Content.{Moment, Content, moments_since, on_answered}
 use Rattle.qls_meaning.specs.History.{AllUnmarked}
 use Rattle.qls_pool.specs.Discipline.{IsPoolStep}
 use Rattle.qls_pool.specs.Moments.{Passes}
-use Rattle.qls_pool.specs.Next.{IsNextTaken, HeadersStay}
-use Rattle.qls_journals.specs.Moments.{first_epochs}
+use Rattle.qls_pool.specs.Next.{HeadersStay}
 use Rattle.qls_pool.specs.Files.{IdsDiffer}
 
 -- where bytes were answered nothing is pending
@@ -23,12 +22,11 @@ AddsAnswer bytes old new =
 abbrev pub AtReplies : (Moment → Type 0) → Moment → Moment → Type 0
 AtReplies P m n = (n.answered ≡ m.answered) ⊎ P n
 
--- From a moment of a run to the next: a file is made, comes into use and is written as the pool has it, and is the next of its journal;
--- headers of files in use stay, and no two files get one id
+-- From a moment of a run to the next: a file is made, comes into use and is written as the pool has it; headers of files in use stay, and
+-- no two files get one id
 pub record IsRunStep (m n : Moment) : Type 0 where
   pub differ : IdsDiffer m.disk → IdsDiffer n.disk
   pub pool : IsPoolStep m n
-  pub next : IsNextTaken first_epochs m n
   pub headers : HeadersStay m n
 
 -- where nothing was pending at the start, bytes are answered while nothing is

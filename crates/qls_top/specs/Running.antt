@@ -1,6 +1,5 @@
 -- What a line does to a store.
 use Rattle.std.specs.Prelude.{◌≡◌, ◌++◌, ◌+◌, ◌<◌, ℕ, Bool, false, List, [], ◌∷◌, length, Option, Some, None, Result, IfOk, if◌then◌else◌}
-use Rattle.qls_model.specs.declared.machine.PoolId.{PoolId}
 use Rattle.qls_model.specs.declared.machine.Command.{Command}
 use Rattle.qls_model.specs.Machine.{MachineState}
 use Rattle.qls_site.specs.Disk.{Disk, IsQuiet}
@@ -11,8 +10,8 @@ use Rattle.qls_command.specs.Texts.{reply_text}
 use Rattle.qls_pool.specs.Moments.{Chain, Arrives}
 use Rattle.qls_log.specs.Leaving.{LeavesInOrder, WritesInOrder}
 use Rattle.qls_log.specs.Unwritten.{history_with}
-use Rattle.qls_store.specs.Stores.{StoreState, state_of, home_of, rid_of, Fits, IsClean}
-use Rattle.qls_journals.specs.Homes.{Homes, TakesFromHome}
+use Rattle.qls_store.specs.Stores.{StoreState, state_of, rid_of, Fits, IsClean}
+use Rattle.qls_journals.specs.Homes.{Homes, SameHomes, TakesFromHome}
 use Rattle.qls_store.specs.Homes.{homes_of, homes_after, is_accepted}
 use Rattle.qls_store.specs.Ends.{MeetsItsEnd, MeetsAtOnce, raises_rid, StopsAtEnd}
 use Rattle.qls_journals.specs.Moments.{AreWritten, StaysQuiet}
@@ -23,36 +22,37 @@ use Rattle.qls_top.specs.Moments.{AtReplies, IsRunStep, UnmarkedSince}
 use Rattle.qls_top.specs.Held.{IsHeld}
 
 -- a line that is none needs nothing
-abbrev pub LineMeetsEnd : PoolId → MachineState → Option Command → Disk → Type 0
-LineMeetsEnd home S None d = ⊥
-LineMeetsEnd home S (Some c) d = MeetsItsEnd home S c d
+abbrev pub LineMeetsEnd : Homes → MachineState → Option Command → Disk → Type 0
+LineMeetsEnd homes S None d = ⊥
+LineMeetsEnd homes S (Some c) d = MeetsItsEnd homes S c d
 
 -- nor at once, for its first batch
-abbrev pub LineMeetsAtOnce : PoolId → MachineState → Option Command → Disk → Type 0
-LineMeetsAtOnce home S None d = ⊥
-LineMeetsAtOnce home S (Some c) d = MeetsAtOnce home S c d
+abbrev pub LineMeetsAtOnce : Homes → MachineState → Option Command → Disk → Type 0
+LineMeetsAtOnce homes S None d = ⊥
+LineMeetsAtOnce homes S (Some c) d = MeetsAtOnce homes S c d
 
 -- it gives no record id of the prepared list
 abbrev pub rid_after : MachineState → Option Command → ℕ → ℕ
 rid_after S None rid = rid
 rid_after S (Some c) rid = if raises_rid S c then rid + 1 else rid
 
--- and changes no pool of a queue
+-- and changes no home of a journal
 abbrev pub homes_by : MachineState → Option Command → Homes → Homes
 homes_by S None homes = homes
 homes_by S (Some c) homes = homes_after S c homes
 
--- After a line: the store has the machine's state, the reply was answered, at the last moment, and the store fits the site. There was a
--- file and a record id for the line's first batch, if the store was clean; where the files that came into use were unmarked, the store is
--- clean if it was
+-- After a line: the store has the machine's state and the homes that follow, the reply was answered, at the last moment, and the store fits
+-- the site. There was a file and a record id for the line's first batch, if the store was clean; where the files that came into use were
+-- unmarked, the store is clean if it was
 pub record RunsLine (was : StoreState) (asked : Option Command) (s : StoreState) (old new : Content) : Type 0 where
   pub state : state_of s ≡ (answer_line (state_of was) asked).0
   pub rid : rid_of s ≡ rid_after (state_of was) asked (rid_of was)
+  pub homes : SameHomes (homes_of s) (homes_by (state_of was) asked (homes_of was))
   pub arrives : Arrives IsRunStep old new
   pub quiet : StaysQuiet old new
   pub answered : new.now.answered ≡ old.now.answered ++ reply_text (answer_line (state_of was) asked).1
   pub last : Chain (AtReplies (λ n. n ≡ new.now)) old.now arrives.since
-  pub had : IsClean was old.now.disk → LineMeetsAtOnce (home_of was) (state_of was) asked old.now.disk → ⊥
+  pub had : IsClean was old.now.disk → LineMeetsAtOnce (homes_of was) (state_of was) asked old.now.disk → ⊥
   pub fits : Fits s new.now.disk
   pub clean : AllUnmarked old.now arrives.since → IsClean was old.now.disk → IsClean s new.now.disk
 
@@ -76,7 +76,7 @@ LineStops was (Some c) old new = StopsAtEnd was c old new
 
 -- ---- at work on a line
 
--- so much was answered before; files that come into use are of the pool of their queue, and a line that is refused changes no file
+-- so much was answered before; files that come into use are of the home of their journal, and a line that is refused changes no file
 pub record IsUnderLine (homes : Homes) (accepted : Bool) (before : List ℕ) (m n : Moment) : Type 0 where
   pub answered : m.answered ≡ before
   pub pools : TakesFromHome homes m n

@@ -9,7 +9,6 @@ is_exact (Ok x) = true
 is_exact (Err fault.Spent) = true
 is_exact (Err fault.Source) = true
 is_exact (Err fault.TooLong) = true
-is_exact (Err fault.NotEmpty) = true
 is_exact (Err fault.Damaged) = true
 is_exact (Err fault.Site) = false
 is_exact (Err fault.Draw) = false

@@ -5,9 +5,9 @@ use Rattle.qls_site.specs.declared.site.SiteError.TheVariants as site
 use Rattle.qls_top.specs.declared.fault.Fault.{Fault}
 use Rattle.qls_journals.specs.declared.cause.Cause.{Cause}
 use Rattle.qls_journals.specs.declared.cause.Cause.TheVariants as cause
-use Rattle.qls_scan.specs.declared.answers.ScanFault.{ScanFault}
-use Rattle.qls_scan.specs.declared.answers.ScanFault.TheVariants as scan
-use Rattle.qls_top.specs.declared.fault.Fault.TheVariants.{Damaged, Source, Site, Memory, TooLong, Draw, Spent, NotEmpty}
+use Rattle.qls_look.specs.declared.fault.OpenFault.{OpenFault}
+use Rattle.qls_look.specs.declared.fault.OpenFault.TheVariants as opening
+use Rattle.qls_top.specs.declared.fault.Fault.TheVariants.{Damaged, Source, Site, Memory, TooLong, Draw, Spent}
 
 abbrev pub status_of : Fault → ℕ
 status_of Damaged = 3
@@ -17,7 +17,6 @@ status_of Memory = 6
 status_of TooLong = 7
 status_of Draw = 8
 status_of Spent = 9
-status_of NotEmpty = 10
 
 abbrev pub fault_of_site : SiteError → Fault
 fault_of_site site.Failed = Site
@@ -29,11 +28,12 @@ fault_of_cause cause.Draw = Draw
 fault_of_cause cause.Spent = Spent
 fault_of_cause cause.Memory = Memory
 
--- a site that is damaged isn't one to start on
-abbrev pub fault_of_scan : ScanFault → Fault
-fault_of_scan scan.Failed = Site
-fault_of_scan scan.Memory = Memory
-fault_of_scan (scan.Damaged file rule) = NotEmpty
+abbrev pub fault_of_opening : OpenFault → Fault
+fault_of_opening opening.Failed = Site
+fault_of_opening opening.Draw = Draw
+fault_of_opening opening.Spent = Spent
+fault_of_opening opening.Memory = Memory
+fault_of_opening (opening.Damaged file rule) = Damaged
 
 -- the faults of a call on the site
 abbrev pub is_of_site : Fault → Bool
@@ -43,7 +43,6 @@ is_of_site Source = false
 is_of_site TooLong = false
 is_of_site Draw = false
 is_of_site Spent = false
-is_of_site NotEmpty = false
 is_of_site Damaged = false
 
 abbrev pub IsOfSite : Fault → Type 0
@@ -57,7 +56,6 @@ is_of_line Draw = true
 is_of_line Spent = true
 is_of_line Source = false
 is_of_line TooLong = false
-is_of_line NotEmpty = false
 is_of_line Damaged = false
 
 abbrev pub IsOfLine : Fault → Type 0
@@ -71,25 +69,10 @@ is_of_lines Draw = true
 is_of_lines Spent = true
 is_of_lines Source = true
 is_of_lines TooLong = true
-is_of_lines NotEmpty = false
 is_of_lines Damaged = false
 
 abbrev pub IsOfLines : Fault → Type 0
 IsOfLines f = is_of_lines f ≡ true
-
--- the faults of a run: each but damage
-abbrev pub is_of_run : Fault → Bool
-is_of_run Site = true
-is_of_run Memory = true
-is_of_run Draw = true
-is_of_run Spent = true
-is_of_run Source = true
-is_of_run TooLong = true
-is_of_run NotEmpty = true
-is_of_run Damaged = false
-
-abbrev pub IsOfRun : Fault → Type 0
-IsOfRun f = is_of_run f ≡ true
 
 -- the faults of a show
 abbrev pub is_of_show : Fault → Bool
@@ -100,7 +83,6 @@ is_of_show Draw = false
 is_of_show Spent = false
 is_of_show Source = false
 is_of_show TooLong = false
-is_of_show NotEmpty = false
 
 abbrev pub IsOfShow : Fault → Type 0
 IsOfShow f = is_of_show f ≡ true

@@ -32,4 +32,4 @@ first_of (l ∷ ls) n = if n == l.0 then Some l.1 else first_of ls n
 abbrev pub line_of : ℕ → Option (List ℕ)
 line_of status = first_of (
     (2, codes "usage: qls DIR run [PART KIB] | show") ∷ (4, codes "source fault") ∷ (5, codes "site fault") ∷ (6, codes "want of memory")
-    ∷ (7, codes "script too long") ∷ (8, codes "draw fault") ∷ (9, codes "counter spent") ∷ (10, codes "store not empty") ∷ []) status
+    ∷ (7, codes "script too long") ∷ (8, codes "draw fault") ∷ (9, codes "counter spent") ∷ []) status

@@ -1,6 +1,6 @@
 //! What ends a run before its script is read to the end.
+use qls_look::OpenFault;
 use qls_model::NoMemory;
-use qls_scan::ScanFault;
 use qls_site::{DrawError, SiteError, SourceError};
 use qls_store::Cause;
 use std::alloc::{AllocError, AllocFailed};
@@ -20,11 +20,9 @@ pub enum Fault {
     TooLong,
     /// No serial could be drawn.
     Draw,
-    /// A command needed a further file, and no number was left for it, or neither an empty file nor an id; or it needed a
-    /// record id of the prepared list, and the last one was given.
+    /// A command or the opening needed a further file, and no number or epoch was left for it, or neither an empty file nor
+    /// an id; or a command needed a record id of the prepared list, and the last one was given.
     Spent,
-    /// The site held a file in use at the start, or one that breaks the rules of ids and of empty files.
-    NotEmpty,
 }
 
 impl Fault {
@@ -43,7 +41,6 @@ impl Fault {
             Fault::TooLong => 7,
             Fault::Draw => 8,
             Fault::Spent => 9,
-            Fault::NotEmpty => 10,
         }
     }
 }
@@ -133,17 +130,19 @@ impl From<Cause> for Fault {
     }
 }
 
-impl From<ScanFault> for Fault {
+impl From<OpenFault> for Fault {
     ghost use Rattle.std.specs.Prelude.{◌≡◌};
-    ghost use Rattle.qls_top.specs.Status.{fault_of_scan};
+    ghost use Rattle.qls_top.specs.Status.{fault_of_opening};
 
-    ghost from_gives = { λ error fault. fault ≡ fault_of_scan error };
+    ghost from_gives = { λ error fault. fault ≡ fault_of_opening error };
 
-    fn from(error: ScanFault) -> Fault {
+    fn from(error: OpenFault) -> Fault {
         match error {
-            ScanFault::Failed => Fault::Site,
-            ScanFault::Memory => Fault::Memory,
-            ScanFault::Damaged { .. } => Fault::NotEmpty,
+            OpenFault::Failed => Fault::Site,
+            OpenFault::Draw => Fault::Draw,
+            OpenFault::Spent => Fault::Spent,
+            OpenFault::Memory => Fault::Memory,
+            OpenFault::Damaged { .. } => Fault::Damaged,
         }
     }
 }

@@ -64,7 +64,12 @@ fn answer_state<S: Site>(alloc: Global, state: &State, site: &mut S) -> Result<(
 }
 
 /// Answers the line of a damage, and then Damaged.
-fn answer_damage<S: Site>(alloc: Global, file: u64, rule: Rule, site: &mut S) -> Result<(), Fault>
+pub(crate) fn answer_damage<S: Site>(
+    alloc: Global,
+    file: u64,
+    rule: Rule,
+    site: &mut S,
+) -> Result<(), Fault>
     ensures told { Tells (OnlyAnswers (line_of_damage (file, rule))) (S.told site.old) (S.told site.new) }
     ensures answered { result ≡ Err Fault.Damaged → Tells (Answers (line_of_damage (file, rule))) (S.told site.old) (S.told site.new) }
     ensures kept { S.faults site.old ≤ S.faults site.new }

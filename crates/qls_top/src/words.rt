@@ -8,7 +8,8 @@ const DEFAULT_POOL: PoolId = PoolId { part: 1, kib: 2048 };
 /// What the words ask for.
 #[derive(Clone, Copy, Debug, PartialEq, Eq)]
 pub enum Job {
-    /// Run the script of the source; the prepared list, and each queue whose command names no pool, are in this pool.
+    /// Run the script of the source on the store of the site; the prepared list, where it has no file yet, and each queue whose
+    /// command names no pool are in this pool.
     Run { home: PoolId },
     /// Answer what the store means. Nothing is written.
     Show,
@@ -56,7 +57,7 @@ fn job_of_text(job: &[u8]) -> Option<Job>
     None
 }
 
-/// The line that a program prints on standard error after this status: one for 2 and for 4 to 10.
+/// The line that a program prints on standard error after this status: one for 2 and for 4 to 9.
 pub fn status_line(status: u8) -> Option<&'static str>
     ensures line { MatchOption result (line_of status ≡ None) (λ line. line_of status ≡ Some line.now) }
 {
@@ -68,7 +69,6 @@ pub fn status_line(status: u8) -> Option<&'static str>
         7 => Some("script too long"),
         8 => Some("draw fault"),
         9 => Some("counter spent"),
-        10 => Some("store not empty"),
         _ => None,
     }
 }

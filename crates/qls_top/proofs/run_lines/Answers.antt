@@ -1,11 +1,11 @@
-use Rattle.std.proofs.Common.{rules, ◌≡◌, ◌≤◌, IfSome, Bool, true, List, [], ℕ, Result, Ok, Err, ◌∙◌, refl, subst, arith, sym, ap}
+use Rattle.std.proofs.Common.{rules, ◌≡◌, ◌≤◌, IfSome, Bool, true, List, [], ℕ, Result, Ok, Err, refl, subst, arith, sym, ap}
 use Rattle.qls_site.specs.Content.{Tells}
 use Rattle.qls_command.specs.Lines.{command_of}
 use Rattle.qls_pool.specs.Files.{OnDisk}
 use Rattle.qls_pool.specs.Moments.{Arrives}
 use Rattle.qls_pool.specs.Serials.{DrawsTaken}
 use Rattle.qls_pool.proofs.Serials.{drawn_then, drawn_none, drawn_any}
-use Rattle.qls_store.specs.Stores.{StoreState, state_of, home_of, rid_of, IsStore, Fits}
+use Rattle.qls_store.specs.Stores.{StoreState, state_of, IsStore, Fits}
 use Rattle.qls_journals.specs.Homes.{SameHomes}
 use Rattle.qls_store.specs.Homes.{homes_of}
 use Rattle.qls_top.specs.declared.fault.Fault.{Fault}
@@ -17,6 +17,7 @@ use Rattle.qls_top.specs.Running.{LineStops, RunsLine, RepliesLine, UnderLine, h
 use Rattle.qls_top.specs.Serials.{is_exact}
 use Rattle.qls_top.proofs.Chains.{went_then, tells_none}
 use Rattle.qls_top.proofs.CutLines.{counted_then}
+use Rattle.qls_top.proofs.DueRuns.{TakenSoFar, line_takes, line_taken, taken_none, taken_takes}
 use Rattle.qls_top.proofs.Having.{line_had, script_had, HadWay, had_none}
 use Rattle.qls_top.proofs.Holding.{means_its_state}
 use Rattle.qls_top.proofs.Lines.{line_run, line_went, line_passes, line_fits, line_quieted, line_clean, line_spent, read_so_far, script_ended, fails_quietly, quieted_rests, quieted_passes, begun, Quieted, quieted_none, clean_none, went_none}
@@ -32,34 +33,34 @@ loop-store-init g c =
     let none : List ℕ = [] in
     let fresh : none ≡ c.in_ok-script.script.waiting = sym (ap (λ (k : Cutter). k.waiting) c.in_ok-script.ensures.fresh) in
     subst (λ (s : StoreState). record {
-      home : home_of s ≡ home_of c.args.store;
       fits : IfSome (g.S.Site.told c.args.site.now) (OnDisk (Fits s));
       went : Tells (Arrives IsRunStep) (g.S.Site.told c.args.site.now) (g.S.Site.told c.args.site.now);
       quieted : Tells Quieted (g.S.Site.told c.args.site.now) (g.S.Site.told c.args.site.now);
       clean : Tells (StaysClean c.args.store s) (g.S.Site.told c.args.site.now) (g.S.Site.told c.args.site.now);
       drawn : DrawsTaken true (g.S.Site.told c.args.site.now) (g.S.Site.told c.args.site.now) (g.N.Serials.drawn c.args.serials.now) (g.N.Serials.drawn c.args.serials.now);
       replied : RepliesClean c.args.store (g.S.Site.told c.args.site.now) (g.S.Site.told c.args.site.now) (g.R.Source.left c.args.source.now);
-      under_way : UnderWay (rid_of c.args.store) (state_of c.args.store) (g.S.Site.told c.args.site.now) (g.S.Site.told c.args.site.now) (g.R.Source.left c.args.source.now) c.in_ok-script.script.waiting (g.R.Source.left c.args.source.now) s;
+      under_way : UnderWay c.args.store (g.S.Site.told c.args.site.now) (g.S.Site.told c.args.site.now) (g.R.Source.left c.args.source.now) c.in_ok-script.script.waiting (g.R.Source.left c.args.source.now) s;
       had : HadWay c.args.store (g.S.Site.told c.args.site.now) (g.S.Site.told c.args.site.now) (g.R.Source.left c.args.source.now) c.in_ok-script.script.waiting (g.R.Source.left c.args.source.now) s;
       kept : Tells (KeptSoFar c.args.store s) (g.S.Site.told c.args.site.now) (g.S.Site.told c.args.site.now);
+      taken : Tells (TakenSoFar c.args.store s) (g.S.Site.told c.args.site.now) (g.S.Site.told c.args.site.now);
       worked : WorkedWay c.args.store (g.S.Site.told c.args.site.now) (g.S.Site.told c.args.site.now) (g.R.Source.left c.args.source.now) c.in_ok-script.script.waiting (g.R.Source.left c.args.source.now) s;
       counted : Counted script_limit (g.R.Source.left c.args.source.now) c.in_ok-script.script.budget (g.R.Source.left c.args.source.now) (Ok true);
       sources : g.R.Source.faults c.args.source.now ≤ g.R.Source.faults c.args.source.now;
       sites : g.S.Site.faults c.args.site.now ≤ g.S.Site.faults c.args.site.now;
       draws : g.N.Serials.faults c.args.serials.now ≤ g.N.Serials.faults c.args.serials.now;
     }) (sym c.store.view_is) (record {
-      home = refl;
       fits = c.requires.fits;
       went = went_none (g.S.Site.told c.args.site.now);
       quieted = quieted_none (g.S.Site.told c.args.site.now);
       clean = clean_none c.args.store (g.S.Site.told c.args.site.now);
       drawn = drawn_none true _ _ _ _ (tells_none (g.S.Site.told c.args.site.now)) refl;
       replied = replies_none c.args.store (g.S.Site.told c.args.site.now) (g.R.Source.left c.args.source.now);
-      under_way = subst (λ (w : List ℕ). UnderWay (rid_of c.args.store) (state_of c.args.store) (g.S.Site.told c.args.site.now) (g.S.Site.told c.args.site.now) (g.R.Source.left c.args.source.now) w (g.R.Source.left c.args.source.now) c.args.store) fresh
+      under_way = subst (λ (w : List ℕ). UnderWay c.args.store (g.S.Site.told c.args.site.now) (g.S.Site.told c.args.site.now) (g.R.Source.left c.args.source.now) w (g.R.Source.left c.args.source.now) c.args.store) fresh
           (begun c.args.store (g.S.Site.told c.args.site.now) (g.R.Source.left c.args.source.now));
       had = subst (λ (w : List ℕ). HadWay c.args.store (g.S.Site.told c.args.site.now) (g.S.Site.told c.args.site.now) (g.R.Source.left c.args.source.now) w (g.R.Source.left c.args.source.now) c.args.store) fresh
           (had_none c.args.store (g.S.Site.told c.args.site.now) (g.R.Source.left c.args.source.now));
       kept = kept_none c.args.store (g.S.Site.told c.args.site.now);
+      taken = taken_none c.args.store (g.S.Site.told c.args.site.now);
       worked = subst (λ (w : List ℕ). WorkedWay c.args.store (g.S.Site.told c.args.site.now) (g.S.Site.told c.args.site.now) (g.R.Source.left c.args.source.now) w (g.R.Source.left c.args.source.now) c.args.store) fresh
           (worked_none c.args.store (g.S.Site.told c.args.site.now) (g.R.Source.left c.args.source.now));
       counted = search rules;
@@ -76,7 +77,6 @@ loop-store-preserved g c =
     let cut = subst (λ (b : Bool). CutsTold c.loop-store.script (g.R.Source.left c.loop-store.source) c.next_line.new.self (g.R.Source.left c.next_line.new.source) c.next_line.new.line.items b) c.if-branch.true c.in_ok-next_line.ensures.cut in
     let command = command_of c.next_line.new.line.items in
     record {
-      home = c.in_ok-store.ensures.home ∙ c.loop-store.invariant.home;
       fits = line_fits c.loop-store.store command s (g.S.Site.told c.loop-store.site) _ ran;
       went = line_went c.loop-store.store command s _ (g.S.Site.told c.loop-store.site) _ i.went ran;
       quieted = line_quieted c.loop-store.store s command _ (g.S.Site.told c.loop-store.site) _ i.quieted ran c.in_ok-store.ensures.quiet;
@@ -88,11 +88,15 @@ loop-store-preserved g c =
           line_replies c.args.store c.loop-store.store _ (g.S.Site.told c.loop-store.site) _ _ (g.R.Source.left c.loop-store.source) _ c.loop-store.script c.next_line.new.self c.next_line.new.line.items script_limit c.loop-store.invariant.under_way i.counted cut
           i.went i.quieted c.loop-store.invariant.clean i.replied (line_passes c.loop-store.store command s (g.S.Site.told c.loop-store.site) _ ran)
           (subst (λ (bytes : List ℕ). Tells (RepliesLine c.loop-store.store (command_of bytes)) (g.S.Site.told c.loop-store.site) (g.S.Site.told c.run_line.new.site)) c.deref.ensures.value c.in_ok-store.ensures.replied);
-      under_way = line_run (rid_of c.args.store) (state_of c.args.store) _ (g.S.Site.told c.loop-store.site) _ _ (g.R.Source.left c.loop-store.source) _ c.loop-store.script c.next_line.new.self c.next_line.new.line.items
+      under_way = line_run c.args.store _ (g.S.Site.told c.loop-store.site) _ _ (g.R.Source.left c.loop-store.source) _ c.loop-store.script c.next_line.new.self c.next_line.new.line.items
           c.loop-store.store s c.loop-store.invariant.under_way cut ran;
       had = line_had c.args.store _ (g.S.Site.told c.loop-store.site) _ _ (g.R.Source.left c.loop-store.source) _ c.loop-store.script c.next_line.new.self c.next_line.new.line.items
-          c.loop-store.store s c.loop-store.invariant.home c.loop-store.invariant.had cut i.went c.loop-store.invariant.clean ran;
+          c.loop-store.store s c.loop-store.invariant.had cut i.went c.loop-store.invariant.clean ran;
       kept = line_kept c.args.store c.loop-store.store s command _ (g.S.Site.told c.loop-store.site) _ c.loop-store.invariant.kept ran c.in_ok-store.ensures.writes c.in_ok-store.ensures.leaves c.in_ok-store.ensures.answers;
+      taken = line_taken c.args.store c.loop-store.store command s _ (g.S.Site.told c.loop-store.site) _
+          (subst (λ (bytes : List ℕ). SameHomes (homes_of s) (homes_by (state_of c.loop-store.store) (command_of bytes) (homes_of c.loop-store.store))) c.deref.ensures.value c.in_ok-store.ensures.homes)
+          i.taken i.fits ran
+          (subst (λ (bytes : List ℕ). Tells (UnderLine c.loop-store.store (command_of bytes)) (g.S.Site.told c.loop-store.site) (g.S.Site.told c.run_line.new.site)) c.deref.ensures.value c.in_ok-store.ensures.under);
       worked = line_worked c.args.store c.loop-store.store c.loop-store.script c.next_line.new.self c.next_line.new.line.items s _ (g.S.Site.told c.loop-store.site) _ _ (g.R.Source.left c.loop-store.source) _ c.loop-store.invariant.worked cut i.went ran
           (subst (λ (bytes : List ℕ). Tells (UnderLine c.loop-store.store (command_of bytes)) (g.S.Site.told c.loop-store.site) (g.S.Site.told c.run_line.new.site)) c.deref.ensures.value c.in_ok-store.ensures.under)
           (subst (λ (bytes : List ℕ). SameHomes (homes_of s) (homes_by (state_of c.loop-store.store) (command_of bytes) (homes_of c.loop-store.store))) c.deref.ensures.value
@@ -124,7 +128,7 @@ returns-in_err-store-clause-spent g c = λ e.
     let is : c.run_line.result ≡ Err fault.Spent = search (rules, c.from_residual-in_err-store.ensures, c.in_err-store.was, e) in
     let cut = subst (λ (b : Bool). CutsTold c.loop-store.script (g.R.Source.left c.loop-store.source) c.next_line.new.self (g.R.Source.left c.next_line.new.source) c.next_line.new.line.items b) c.if-branch.true c.in_ok-next_line.ensures.cut in
     line_spent c.args.store c.loop-store.store _ (g.S.Site.told c.loop-store.site) _ _ (g.R.Source.left c.loop-store.source) _ c.loop-store.script c.next_line.new.self c.next_line.new.line.items script_limit
-    c.loop-store.invariant.home c.loop-store.invariant.under_way i.counted cut i.went c.loop-store.invariant.clean
+    c.loop-store.invariant.under_way i.counted cut i.went c.loop-store.invariant.clean
     (subst (λ (bytes : List ℕ). Tells (LineStops c.loop-store.store (command_of bytes)) (g.S.Site.told c.loop-store.site) (g.S.Site.told c.run_line.new.site)) c.deref.ensures.value
     (c.run_line.ensures.spent is))
 
@@ -156,6 +160,11 @@ pub returns-in_err-store-clause-answers : goal.returns-in_err-store-clause-answe
 returns-in_err-store-clause-answers g c =
     fails_answering c.args.store c.loop-store.store _ (g.S.Site.told c.loop-store.site) _ c.loop-store.invariant.kept c.in_err-store.ensures.told c.in_err-store.ensures.answers
 
+pub returns-in_err-store-clause-takes : goal.returns-in_err-store-clause-takes
+returns-in_err-store-clause-takes g c =
+    line_takes c.args.store c.loop-store.store (command_of c.next_line.new.line.items) _ (g.S.Site.told c.loop-store.site) _ c.loop-store.invariant.taken c.loop-store.invariant.fits c.in_err-store.ensures.told
+    (subst (λ (bytes : List ℕ). Tells (UnderLine c.loop-store.store (command_of bytes)) (g.S.Site.told c.loop-store.site) (g.S.Site.told c.run_line.new.site)) c.deref.ensures.value c.in_err-store.ensures.under)
+
 pub returns-in_err-store-clause-commands : goal.returns-in_err-store-clause-commands
 returns-in_err-store-clause-commands g c =
     let i = c.loop-store.invariant in
@@ -181,6 +190,9 @@ returns-in_err-next_line-clause-leaves g c = kept_leaves c.args.store c.loop-sto
 pub returns-in_err-next_line-clause-answers : goal.returns-in_err-next_line-clause-answers
 returns-in_err-next_line-clause-answers g c = kept_answers c.args.store c.loop-store.store _ _ c.loop-store.invariant.kept
 
+pub returns-in_err-next_line-clause-takes : goal.returns-in_err-next_line-clause-takes
+returns-in_err-next_line-clause-takes g c = taken_takes c.args.store c.loop-store.store _ _ c.loop-store.invariant.taken
+
 pub returns-in_err-next_line-clause-commands : goal.returns-in_err-next_line-clause-commands
 returns-in_err-next_line-clause-commands g c =
     script_works c.args.store c.loop-store.store _ _ _ (g.R.Source.left c.loop-store.source) c.loop-store.script.waiting c.loop-store.script.budget script_limit c.loop-store.invariant.worked c.loop-store.invariant.counted
@@ -202,6 +214,9 @@ returns-in_err-script-clause-leaves g c = kept_leaves c.args.store c.args.store 
 pub returns-in_err-script-clause-answers : goal.returns-in_err-script-clause-answers
 returns-in_err-script-clause-answers g c = kept_answers c.args.store c.args.store _ _ (kept_none c.args.store (g.S.Site.told c.args.site.now))
 
+pub returns-in_err-script-clause-takes : goal.returns-in_err-script-clause-takes
+returns-in_err-script-clause-takes g c = taken_takes c.args.store c.args.store _ _ (taken_none c.args.store (g.S.Site.told c.args.site.now))
+
 pub returns-in_err-script-clause-commands : goal.returns-in_err-script-clause-commands
 returns-in_err-script-clause-commands g c = none_works (state_of c.args.store) (homes_of c.args.store) (g.S.Site.told c.args.site.now) (g.R.Source.left c.args.source.now)
 
@@ -218,6 +233,9 @@ returns-clause-done g c =
     (means_its_state c.clean_store_is_its_meaning.ensures.meaning c.clean_store_is_its_meaning.ensures.alive c.clean_store_is_its_meaning.ensures.past) c.clean_store_is_its_meaning.ensures.rid
     i.under_way (subst IsStore c.store-in-loop-store.view_is c.store-in-loop-store.invariant) i.fits (quieted_rests _ _ i.quieted) i.clean cut
 
+pub returns-clause-rests : goal.returns-clause-rests
+returns-clause-rests g c = quieted_rests _ _ c.loop-store.invariant.quieted
+
 pub returns-clause-had : goal.returns-clause-had
 returns-clause-had g c =
     let i = c.loop-store.invariant in
@@ -232,6 +250,9 @@ returns-clause-leaves g c = kept_leaves c.args.store c.loop-store.store _ _ c.lo
 
 pub returns-clause-answers : goal.returns-clause-answers
 returns-clause-answers g c = kept_answers c.args.store c.loop-store.store _ _ c.loop-store.invariant.kept
+
+pub returns-clause-takes : goal.returns-clause-takes
+returns-clause-takes g c = taken_takes c.args.store c.loop-store.store _ _ c.loop-store.invariant.taken
 
 pub returns-clause-commands : goal.returns-clause-commands
 returns-clause-commands g c =

@@ -23,7 +23,7 @@ send_reply-requires g c = record {
 pub returns-clause-told : goal.returns-clause-told
 returns-clause-told g c =
     let ran = told_commanded c.args.store (command_of c.args.line.now) c.in_ok-store.store (g.S.Site.told c.args.site.now) (g.S.Site.told c.reply_to_line.new.site) c.requires.fits c.in_ok-store.ensures.told in
-    line_ended c.args.store (command_of c.args.line.now) c.in_ok-store.store c.in_ok-store.reply c.in_ok-store.ensures.stepped c.in_ok-store.ensures.rid (Ok tt) _ (g.S.Site.told c.reply_to_line.new.site) _ ran c.in_ok-send_reply.ensures.told
+    line_ended c.args.store (command_of c.args.line.now) c.in_ok-store.store c.in_ok-store.reply c.in_ok-store.ensures.stepped c.in_ok-store.ensures.rid c.in_ok-store.ensures.homes (Ok tt) _ (g.S.Site.told c.reply_to_line.new.site) _ ran c.in_ok-send_reply.ensures.told
 
 pub returns-clause-quiet : goal.returns-clause-quiet
 returns-clause-quiet g c =
@@ -53,7 +53,7 @@ pub returns-in_err-send_reply-clause-told : goal.returns-in_err-send_reply-claus
 returns-in_err-send_reply-clause-told g c =
     let ran = told_commanded c.args.store (command_of c.args.line.now) c.in_ok-store.store (g.S.Site.told c.args.site.now) (g.S.Site.told c.reply_to_line.new.site) c.requires.fits c.in_ok-store.ensures.told in
     ends_err IsRunStep _ c.from_residual-in_err-send_reply.result _ _ c.from_residual-in_err-send_reply.ensures.0
-    (line_ended c.args.store (command_of c.args.line.now) c.in_ok-store.store c.in_ok-store.reply c.in_ok-store.ensures.stepped c.in_ok-store.ensures.rid (Err c.in_err-send_reply.field-0.0) _ (g.S.Site.told c.reply_to_line.new.site) _ ran c.in_err-send_reply.ensures.told)
+    (line_ended c.args.store (command_of c.args.line.now) c.in_ok-store.store c.in_ok-store.reply c.in_ok-store.ensures.stepped c.in_ok-store.ensures.rid c.in_ok-store.ensures.homes (Err c.in_err-send_reply.field-0.0) _ (g.S.Site.told c.reply_to_line.new.site) _ ran c.in_err-send_reply.ensures.told)
 
 pub returns-in_err-send_reply-clause-quiet : goal.returns-in_err-send_reply-clause-quiet
 returns-in_err-send_reply-clause-quiet g c =
