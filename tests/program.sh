@@ -162,6 +162,9 @@ before=$(tree changed)
 run changed show <script.txt
 ended 3 'damaged file 1 rule checksum' ''
 is 'what lies there' "$(tree changed)" "$before"
+run changed run 1 4 <script.txt
+ended 3 'damaged file 1 rule checksum' ''
+is 'what lies there after a run' "$(tree changed)" "$before"
 
 scenario='a show where nothing is'
 mkdir empty
@@ -415,6 +418,149 @@ machine >wanted.txt
 is 'replies' "$(cmp out.txt wanted.txt && wc -l <out.txt)" "$(wc -l <wanted.txt)"
 is 'refusals and lists among them' "$(grep -c -e refused -e coming -e going wanted.txt | awk '{ print ($1 > 100) }')" 1
 
+# ---- stores that live on over runs
+
+# The rid, and the first place, number and epoch in the header of a file
+rid_of() { bytes_of "$1" | cut -c33-48; }
+place_number_epoch() { bytes_of "$1" | cut -c65-112; }
+
+scenario='a second run after the files went back'
+printf 'queue a\nput a 01\ntake a 1\n' >lines.txt
+run lives run 1 4 <lines.txt
+ended 0 $'ok\nok 1\nok' ''
+run lives show </dev/null
+ended 0 $'queues 1\nqueue a last 1 messages 0\ndoubt 0' ''
+printf 'put a 02\n' >lines.txt
+run lives run 1 4 <lines.txt
+ended 0 'ok 2' ''
+is 'files in use' "$(ids_in lives/inuse)" '1 '
+is 'files in the pool' "$(ids_in lives/empty/1/4)" '2 '
+is 'the rid in its header' "$(rid_of "$(file_at lives 1)")" "$(little 1 8)"
+is 'its first place, number and epoch' "$(place_number_epoch "$(file_at lives 1)")" "$(little 4096 8)$(little 3 8)$(little 2 8)"
+
+scenario='a run with nothing to do'
+before=$(tree lives)
+run lives run 1 4 </dev/null
+ended 0 '' ''
+is 'what lies there' "$(tree lives)" "$before"
+
+scenario='a store that is continued by ten runs'
+: >all.txt
+for ((turn = 0; turn < 10; turn++)); do
+    {
+        if ((turn == 0)); then printf 'queue q%s\n' 0 1 2; fi
+        for ((step = 0; step < 12; step++)); do
+            number=$((turn * 12 + step))
+            printf 'put q%s %s\n' $((number % 3)) "$(repeat "$(printf %02x $number)" $((1 + number * 97)))"
+            if ((step % 4 == 3)); then printf 'take q%s %s\n' $((turn % 3)) $((turn + step / 4 + 1)); fi
+        done
+        printf 'begin %02x\nput q0 aa in %02x\ntake q1 %s in %02x\n' $turn $turn $((turn * 3 + 2)) $turn
+        if ((turn % 3 == 0)); then printf 'prepare %02x\n' $turn; fi
+        if ((turn % 2 == 0)); then printf 'commit %02x\n' $turn; else printf 'abort %02x\n' $turn; fi
+        printf 'list q0\nlist q1\nlist q2\ndoubt\n'
+    } >lines.txt
+    cat lines.txt >>all.txt
+    run ten run 1 $((4 + 4 * (turn % 3))) <lines.txt
+    is "status of run $turn" "$status" 0
+    cat out.txt >>all_out.txt
+done
+cp all.txt lines.txt
+machine >wanted.txt
+is 'replies' "$(cmp all_out.txt wanted.txt && wc -l <all_out.txt)" "$(wc -l <wanted.txt)"
+
+scenario='a transaction that was open as a run ended'
+printf 'queue a\nbegin 01\nput a 0a in 01\n' >lines.txt
+run opened run 1 4 <lines.txt
+ended 0 $'ok\nok\nok 1' ''
+printf 'begin 01\ncommit 01\nlist a\n' >lines.txt
+run opened run 1 4 <lines.txt
+ended 0 $'ok\nok\nok 0' ''
+run opened show </dev/null
+ended 0 $'queues 1\nqueue a last 1 messages 0\ndoubt 0' ''
+
+scenario='a transaction in doubt over two runs'
+printf 'doubt\nbegin 01\ncommit 01\nlist a\nlist b\n' >lines.txt
+run doubted run 1 4 <lines.txt
+ended 0 $'ok 1\n01\nrefused exists\nok\nok 1\n1 ready 0a\nok 1\n1 ready 0b' ''
+run doubted show </dev/null
+ended 0 $'queues 2\nqueue a last 1 messages 1\n1 ready 0a\nqueue b last 1 messages 1\n1 ready 0b\ndoubt 0' ''
+
+scenario='runs that are killed at any point'
+{
+    printf 'queue a\n'
+    for ((number = 1; number <= 3000; number++)); do printf 'put a %s\n' "$(repeat "$(printf %04x $number)" 2500)"; done
+} >kills.txt
+wrong=''
+before=0
+for delay in 0.004 0.01 0.02 0.03 0.05 0.08 0.12 0.2 0.3 0.5; do
+    rm -rf killed
+    # the shell says that it was killed
+    { timeout -s KILL "$delay" "$qls" killed run 1 4 <kills.txt >out.txt; } 2>err.txt
+    answered=$(grep -c '^ok [0-9]*$' out.txt)
+    run killed show </dev/null
+    if [ "$status" -ne 0 ]; then wrong+=" $delay: show $status"; continue; fi
+    if [ "$out" = $'queues 0\ndoubt 0' ]; then
+        [ "$answered" -eq 0 ] || wrong+=" $delay: no queue"
+        continue
+    fi
+    many=$(sed -n 's/^queue a last \([0-9]*\) messages \1$/\1/p' out.txt)
+    if [ -z "$many" ] || [ "$many" -lt "$answered" ] || [ "$many" -gt $((answered + 1)) ]; then
+        wrong+=" $delay: $many of $answered"
+        continue
+    fi
+    { head -n $((many + 1)) kills.txt; echo 'list a'; } >lines.txt
+    machine | sed -n "$((many + 3)),\$p" >wanted.txt
+    sed -n '3,$p' out.txt | sed '$d' | cmp -s - wanted.txt || wrong+=" $delay: bodies"
+    printf 'put a 07\n' >lines.txt
+    run killed run 1 4 <lines.txt
+    [ "$status $out" = "0 ok $((many + 1))" ] || wrong+=" $delay: run $status $out"
+    before=$((before + many))
+done
+is 'what is wrong' "$wrong" ''
+is 'some were killed in the middle' "$((before > 0))" 1
+
+scenario='transactions that are killed at any point'
+{
+    printf 'queue a\nqueue b\n'
+    for ((number = 1; number <= 2000; number++)); do
+        xid=$(printf %04x $number)
+        printf 'begin %s\nput a %s in %s\nput b %s in %s\n' $xid $xid $xid $xid $xid
+        if ((number % 2 == 0)); then printf 'prepare %s\n' $xid; fi
+        printf 'commit %s\n' $xid
+    done
+} >kills.txt
+wrong=''
+before=0
+for delay in 0.01 0.02 0.04 0.06 0.1 0.15 0.25 0.4; do
+    rm -rf killed
+    # the shell says that it was killed
+    { timeout -s KILL "$delay" "$qls" killed run 1 4 <kills.txt >out.txt; } 2>err.txt
+    run killed show </dev/null
+    if [ "$status" -ne 0 ]; then wrong+=" $delay: show $status"; continue; fi
+    sed -n '/^queue a /,/^queue b /p' out.txt | grep -v '^queue' >in_a.txt
+    sed -n '/^queue b /,/^doubt /p' out.txt | grep -v -e '^queue' -e '^doubt' >in_b.txt
+    cmp -s in_a.txt in_b.txt || wrong+=" $delay: not in both"
+    before=$((before + $(grep -c ready in_a.txt)))
+    cp out.txt shown.txt
+    run killed run 1 4 </dev/null
+    [ "$status" -eq 0 ] || wrong+=" $delay: run $status"
+    run killed show </dev/null
+    cmp -s out.txt shown.txt || wrong+=" $delay: another state after the opening"
+done
+is 'what is wrong' "$wrong" ''
+is 'some committed before' "$((before > 0))" 1
+
+scenario='the tour of the README'
+ln -sf "$qls" qls
+awk '/^## A store/ { tour = 1; next } /^## / { tour = 0 } tour && /^    / { print substr($0, 5) }' "$top/README.md" >tour.txt
+is 'commands' "$(grep -c '^\$ ' tour.txt)" 10
+sed -n 's/^\$ //p' tour.txt >commands.txt
+while IFS= read -r command; do
+    printf '$ %s\n' "$command"
+    timeout 60 bash -c "$command" </dev/null 2>&1
+done <commands.txt >toured.txt
+is 'the tour' "$(cmp tour.txt toured.txt 2>&1 && wc -l <toured.txt)" "$(wc -l <tour.txt)"
+
 scenario='a folder that is empty, and what a cut left in it'
 mkdir -p store/empty/1/4 store/empty/2/8 store/inuse
 printf 'left' | tee "store/empty/1/4/$UNFINISHED" "store/empty/2/8/$UNFINISHED" >"store/inuse/$UNFINISHED"
@@ -459,8 +605,25 @@ is 'what lies there' "$(tree last/empty)" "$before"
 scenario='an empty file of another size'
 mkdir -p broken/empty/1/4
 truncate -s 8193 "broken/empty/1/4/$FIRST"
+before=$(tree broken)
 run broken run 1 4 <script.txt
-ended 10 '' 'store not empty'
+ended 3 'damaged file 1 rule pool' ''
+is 'what lies there' "$(tree broken)" "$before"
+
+scenario='a second run'
+printf 'queue a\nput a 6869\nbegin 01\nput a 02 in 01\nbegin 02\nput a 03 in 02\nprepare 02\n' >lines.txt
+run again run 1 4 <lines.txt
+ended 0 $'ok\nok 1\nok\nok 2\nok\nok 3\nok' ''
+printf 'doubt\nlist a\ncommit 02\ntake a 1\nput a 04\nlist a\n' >lines.txt
+run again run 2 8 <lines.txt
+ended 0 $'ok 1\n02\nok 2\n1 ready 6869\n3 coming 02 03\nok\nok\nok 4\nok 2\n3 ready 03\n4 ready 04' ''
+run again show </dev/null
+ended 0 $'queues 1\nqueue a last 4 messages 2\n3 ready 03\n4 ready 04\ndoubt 0' ''
+is 'files of the other pool' "$(ids_in again/empty/2/8)" ''
+before=$(tree again)
+run again run 1 4 </dev/null
+ended 0 '' ''
+is 'what lies there' "$(tree again)" "$before"
 
 scenario='the empty script'
 run none run 1 4 </dev/null

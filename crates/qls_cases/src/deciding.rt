@@ -1,9 +1,8 @@
 // Transactions: what their lines are answered, and what they leave in the prepared list's journal and in the pools.
 use crate::growing::number_at;
-use crate::outside::{image_before_end, run_on};
+use crate::outside::{image_before_end, new_site, run_on};
 use crate::returning::{POOL, check_place, left_by};
 use qls_command::{Parsed, parse_line, reply_text};
-use qls_memsite::MemSite;
 use qls_model::{Bytes, NoMemory, Refusal, Reply, Seq, State, step};
 use qls_site::{ImageFile, Place};
 use std::alloc::Global;
@@ -54,7 +53,7 @@ const SCRIPTS: [(&str, &str); 9] = [
 fn transactions_are_answered(rt: HostRuntime) -> Result<(), Fail> {
     let alloc = rt.alloc();
     for (script, answers) in SCRIPTS {
-        let mut site = MemSite::new(alloc);
+        let mut site = new_site(alloc);
         let bytes = Bytes::new(alloc, script.as_bytes())?;
         let status = run_on(alloc, "d run 1 4", bytes, 65_536, &mut site)?;
         assert_eq!(rt; status, 0, "{script}");
@@ -191,7 +190,7 @@ fn each_step_of_a_commit_is_synced_before_the_next(rt: HostRuntime) -> Result<()
     let alloc = rt.alloc();
     let script =
         "queue b\nqueue a\nbegin 01\nput b 0b in 01\nput a 0a in 01\nprepare 01\ncommit 01\n";
-    let mut site = MemSite::new(alloc);
+    let mut site = new_site(alloc);
     let bytes = Bytes::new(alloc, script.as_bytes())?;
     let status = run_on(alloc, "d run 1 4", bytes, 65_536, &mut site)?;
     assert_eq!(rt; status, 0);
@@ -265,7 +264,7 @@ fn interleaved_transactions_are_the_machines(rt: HostRuntime) -> Result<(), Fail
     let alloc = rt.alloc();
     let script = interleaved(alloc)?;
     let answers = answers_of_the_machine(alloc, &script)?;
-    let mut site = MemSite::new(alloc);
+    let mut site = new_site(alloc);
     let status = run_on(alloc, "d run 1 8", script, 65_536, &mut site)?;
     assert_eq!(rt; status, 0);
     assert!(rt; site.answered() == answers.as_slice());

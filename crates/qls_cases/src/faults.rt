@@ -1,6 +1,6 @@
 // What a fault of site, source or serials ends a run with.
-use crate::outside::{image_before_end, run_on, words_of};
-use qls_memsite::{CallKind, MemSerials, MemSite, MemSource};
+use crate::outside::{image_before_end, new_site, run_on, words_of};
+use qls_memsite::{CallKind, MemSerials, MemSource};
 use qls_model::Bytes;
 use qls_top::run;
 use std::test::Fail;
@@ -20,7 +20,7 @@ fn a_site_fault_ends_a_run_before_its_answer(rt: HostRuntime) -> Result<(), Fail
         (CallKind::Answer, 2, "ok\n"),
         (CallKind::Sync, 3, "ok\nok 1\n"),
     ] {
-        let mut site = MemSite::new(alloc);
+        let mut site = new_site(alloc);
         site.fail_call(kind, n)?;
         let script = Bytes::new(alloc, b"queue a\nput a 01\nput a 02\n")?;
         let status = run_on(alloc, "d run 1 8", script, 65_536, &mut site)?;
@@ -36,7 +36,7 @@ fn a_source_fault_ends_a_run_behind_its_whole_lines(rt: HostRuntime) -> Result<(
     let alloc = rt.alloc();
     let words = words_of(alloc, "d run 1 4")?;
     for (failing, answers) in [(1, ""), (2, "ok\n")] {
-        let mut site = MemSite::new(alloc);
+        let mut site = new_site(alloc);
         let mut source = MemSource::new(alloc, Bytes::new(alloc, b"queue a\nput a 01\n")?, 15);
         source.fail_read(failing);
         let status = run(
@@ -56,7 +56,7 @@ fn a_source_fault_ends_a_run_behind_its_whole_lines(rt: HostRuntime) -> Result<(
 fn a_draw_fault_ends_a_run_before_its_file(rt: HostRuntime) -> Result<(), Fail> {
     let alloc = rt.alloc();
     let words = words_of(alloc, "d run 1 4")?;
-    let mut site = MemSite::new(alloc);
+    let mut site = new_site(alloc);
     let mut source = MemSource::new(alloc, Bytes::new(alloc, b"queue a\n")?, 9);
     let mut serials = MemSerials::counting(7);
     serials.fail_draw(1);

@@ -1,7 +1,7 @@
 // Journals that grow by files: what stands in the headers of the files, and in their data areas, by numbers that follow from the format.
-use crate::outside::{image_before_end, run_on, words_of};
+use crate::outside::{image_before_end, new_site, run_on, site_on, words_of};
 use crate::pools::empty_file;
-use qls_memsite::{MemSerials, MemSite, MemSource};
+use qls_memsite::{MemSerials, MemSource};
 use qls_model::{Bytes, Seq};
 use qls_site::{ImageFile, Place, Serials};
 use qls_top::run;
@@ -97,7 +97,7 @@ fn grown(
     answers: &str,
     syncs: u64,
 ) -> Result<Seq<ImageFile>, Fail> {
-    let mut site = MemSite::new(alloc);
+    let mut site = new_site(alloc);
     let status = run_on(alloc, "d run 1 4", puts(alloc, sizes)?, 65_536, &mut site)?;
     assert_eq!(rt; status, 0);
     assert_eq!(rt; site.answered(), answers.as_bytes());
@@ -171,7 +171,7 @@ fn no_file_for_the_rest_of_a_put_ends_a_run(rt: HostRuntime) -> Result<(), Fail>
     files.push(empty_file(alloc, 5, 1, 4, 8_192, 0)?)?;
     files.push(empty_file(alloc, 6, 1, 4, 8_192, 0)?)?;
     files.push(empty_file(alloc, (1 << 62) - 1, 2, 4, 8_192, 0)?)?;
-    let mut site = MemSite::from_image(alloc, files)?;
+    let mut site = site_on(alloc, files)?;
     let words = words_of(alloc, "d run 1 4")?;
     let mut source = MemSource::new(alloc, puts(alloc, &[1, 8_192])?, 65_536);
     let mut serials = MemSerials::counting(7);

@@ -1,6 +1,9 @@
-//! Whole runs of scripts on a site in memory: what is answered, and what lies there after a script, a fault or a crash. Tests alone.
+//! Whole runs of scripts on a site in memory, one after another: what is answered, and what lies there after a script, a fault or a
+//! crash. Tests alone.
 #![tactic(auto)]
 
+#[cfg(test)]
+mod continuing;
 #[cfg(test)]
 mod deciding;
 #[cfg(test)]
@@ -11,6 +14,8 @@ mod growing;
 mod outside;
 #[cfg(test)]
 mod pools;
+#[cfg(test)]
+mod reopening;
 #[cfg(test)]
 mod returning;
 #[cfg(test)]

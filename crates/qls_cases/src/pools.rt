@@ -1,9 +1,9 @@
-// Runs on a site with empty files: which file a queue takes, and on which sites no run begins.
+// Runs on a site with empty files: which file a queue takes.
 ghost use Rattle.std.specs.Prelude.{◌≡◌, IfOk};
 
-use crate::outside::{image_before_end, run_on, words_of};
-use crate::stored::{check_refused, file_with_a_message};
-use qls_memsite::{MemSerials, MemSite, MemSource};
+use crate::outside::{image_before_end, run_on, site_on, words_of};
+use crate::stored::file_with_a_message;
+use qls_memsite::{MemSerials, MemSource};
 use qls_model::{Bytes, Seq};
 use qls_site::{ImageFile, Place, Serials};
 use qls_top::run;
@@ -50,7 +50,7 @@ fn a_queue_takes_the_least_file_of_its_pool(rt: HostRuntime) -> Result<(), Fail>
     files.push(empty_file(alloc, 3, 1, 4, 8_192, 0xa3)?)?;
     files.push(empty_file(alloc, 4, 2, 4, 8_192, 0xa4)?)?;
     files.push(empty_file(alloc, 5, 1, 4, 8_192, 0xa5)?)?;
-    let mut site = MemSite::from_image(alloc, files)?;
+    let mut site = site_on(alloc, files)?;
     let script = Bytes::new(alloc, b"queue a\nput a 6869\n")?;
     let status = run_on(alloc, "d run 1 4", script, 9, &mut site)?;
     assert_eq!(rt; status, 0);
@@ -83,7 +83,7 @@ fn a_queue_whose_pool_is_empty_gets_the_next_id(rt: HostRuntime) -> Result<(), F
     let mut files = Seq::new(alloc);
     files.push(empty_file(alloc, 2, 1, 4, 8_192, 0xa2)?)?;
     files.push(empty_file(alloc, 9, 2, 8, 12_288, 0xa9)?)?;
-    let mut site = MemSite::from_image(alloc, files)?;
+    let mut site = site_on(alloc, files)?;
     let script = Bytes::new(alloc, b"queue a\nqueue b\n")?;
     let status = run_on(alloc, "d run 1 4", script, 9, &mut site)?;
     assert_eq!(rt; status, 0);
@@ -106,7 +106,7 @@ fn no_file_and_no_id_end_a_run_before_a_draw(rt: HostRuntime) -> Result<(), Fail
     let alloc = rt.alloc();
     let mut files = Seq::new(alloc);
     files.push(empty_file(alloc, (1 << 62) - 1, 2, 4, 8_192, 0)?)?;
-    let mut site = MemSite::from_image(alloc, files)?;
+    let mut site = site_on(alloc, files)?;
     let words = words_of(alloc, "d run 1 4")?;
     let mut source = MemSource::new(alloc, Bytes::new(alloc, b"put a 01\nqueue a\n")?, 9);
     let mut serials = MemSerials::counting(7);
@@ -122,21 +122,5 @@ fn no_file_and_no_id_end_a_run_before_a_draw(rt: HostRuntime) -> Result<(), Fail
         (only.id, only.place),
         ((1 << 62) - 1, Place::Empty { part: 2, kib: 4 })
     );
-    Ok(())
-}
-
-#[test]
-fn no_run_begins_where_an_id_or_a_pool_is_broken(rt: HostRuntime) -> Result<(), Fail> {
-    let alloc = rt.alloc();
-    for (id, part, kib, size) in [
-        (0, 1, 4, 8_192),
-        (1 << 62, 1, 4, 8_192),
-        (5, 0, 4, 8_192),
-        (5, 1_000, 4, 8_192),
-        (5, 1, 6, 10_240),
-        (5, 1, 4, 8_193),
-    ] {
-        check_refused(&rt, alloc, empty_file(alloc, id, part, kib, size, 0)?)?;
-    }
     Ok(())
 }

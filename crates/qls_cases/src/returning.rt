@@ -1,7 +1,6 @@
 // Files that go back to their pool: which, when, and with what bytes.
 use crate::growing::{check_header, number_at, puts};
-use crate::outside::{image_before_end, run_on};
-use qls_memsite::MemSite;
+use crate::outside::{image_before_end, new_site, run_on};
 use qls_model::{Bytes, Seq};
 use qls_site::{ImageFile, Place};
 use std::alloc::Global;
@@ -15,7 +14,7 @@ pub(crate) fn left_by(
     script: &str,
     answers: &str,
 ) -> Result<Seq<ImageFile>, Fail> {
-    let mut site = MemSite::new(alloc);
+    let mut site = new_site(alloc);
     let bytes = Bytes::new(alloc, script.as_bytes())?;
     let status = run_on(alloc, "d run 1 4", bytes, 65_536, &mut site)?;
     assert_eq!(rt; status, 0, "{script}");
@@ -110,7 +109,7 @@ fn a_long_message_holds_each_of_its_files(rt: HostRuntime) -> Result<(), Fail> {
     let alloc = rt.alloc();
     let mut script = puts(alloc, &[16_000, 1])?;
     script.add(b"take a 1\n")?;
-    let mut site = MemSite::new(alloc);
+    let mut site = new_site(alloc);
     let status = run_on(alloc, "d run 1 4", script, 65_536, &mut site)?;
     assert_eq!(rt; status, 0);
     assert_eq!(rt; site.answered(), b"ok\nok 1\nok 2\nok\n".as_slice());
@@ -133,7 +132,7 @@ fn files_are_used_again(rt: HostRuntime) -> Result<(), Fail> {
         script.add(b"put a 01\ntake a ")?;
         script.add(format!(in alloc; "{round}\n")?.as_bytes())?;
     }
-    let mut site = MemSite::new(alloc);
+    let mut site = new_site(alloc);
     let status = run_on(alloc, "d run 1 4", script, 65_536, &mut site)?;
     assert_eq!(rt; status, 0);
     let files = image_before_end(&rt, alloc, &site, 0)?;

@@ -1,7 +1,7 @@
 // What scripts are answered.
 use crate::growing::number_at;
-use crate::outside::{image_before_end, run_on};
-use qls_memsite::{MemSerials, MemSite, MemSource};
+use crate::outside::{image_before_end, new_site, run_on};
+use qls_memsite::{MemSerials, MemSource};
 use qls_model::{Bytes, NoMemory};
 use qls_top::run;
 use std::alloc::Global;
@@ -98,7 +98,7 @@ fn scripts_are_answered_line_by_line(rt: HostRuntime) -> Result<(), Fail> {
     let alloc = rt.alloc();
     for (words, script, answers, files) in SCRIPTS {
         for piece in [1, 9, 65_536] {
-            let mut site = MemSite::new(alloc);
+            let mut site = new_site(alloc);
             let bytes = Bytes::new(alloc, script.as_bytes())?;
             let status = run_on(alloc, words, bytes, piece, &mut site)?;
             assert_eq!(rt; status, 0, "{words}: {script}");
@@ -158,7 +158,7 @@ fn long_lines_and_scripts_have_limits(rt: HostRuntime) -> Result<(), Fail> {
         ("d run 1 4", "", b'x', 67_108_864, "", "refused line\n", 0),
         ("d run 1 4", "", b'x', 67_108_865, "", "", 7),
     ] {
-        let mut site = MemSite::new(alloc);
+        let mut site = new_site(alloc);
         let script = long_script(alloc, before, byte, count, behind)?;
         let answered = run_on(alloc, words, script, 1_000_000, &mut site)?;
         assert_eq!(rt; answered, status, "{count}");
@@ -181,11 +181,11 @@ fn words_without_a_job_call_nothing(rt: HostRuntime) -> Result<(), Fail> {
         " run",
         "d run 1 4 5",
     ] {
-        let mut site = MemSite::new(alloc);
+        let mut site = new_site(alloc);
         let status = run_on(alloc, words, Bytes::new(alloc, b"queue a\n")?, 9, &mut site)?;
         assert_eq!(rt; (status, site.moment_count()), (2, 1), "{words}");
     }
-    let mut site = MemSite::new(alloc);
+    let mut site = new_site(alloc);
     let mut source = MemSource::new(alloc, Bytes::new(alloc, b"queue a\n")?, 9);
     let status = run(
         alloc,
@@ -202,7 +202,7 @@ fn words_without_a_job_call_nothing(rt: HostRuntime) -> Result<(), Fail> {
 #[test]
 fn words_without_a_pool_have_a_default_one(rt: HostRuntime) -> Result<(), Fail> {
     let alloc = rt.alloc();
-    let mut site = MemSite::new(alloc);
+    let mut site = new_site(alloc);
     let script = "queue a\nbegin 01\nput a 0a in 01\ncommit 01\n";
     let bytes = Bytes::new(alloc, script.as_bytes())?;
     let status = run_on(alloc, "d run", bytes, 9, &mut site)?;

@@ -1,7 +1,10 @@
 // What a show answers, and that it leaves all as it was.
 ghost use Rattle.std.specs.Prelude.{◌≡◌, IfOk};
+ghost use Rattle.qls_cases.specs.Resting.{Rests};
 
-use crate::outside::{file_before_end, image_before_end, run_on, words_of};
+use crate::outside::{
+    check_same, file_before_end, image_before_end, new_site, run_on, site_on, words_of,
+};
 use crate::pools::empty_file;
 use crate::stored::{add_padded, file_with_a_message};
 use qls_memsite::{CallKind, MemSerials, MemSite, MemSource};
@@ -45,15 +48,6 @@ const LIST: &str =
 const ENTRY: &str =
     "514c536502001000090000000000000001000000000000000100000000000000000000000000000001aeb3ac9a7401733809000000000000000100000000000000";
 
-// The files are those that were there.
-fn check_same(rt: &impl Abort, was: &Seq<ImageFile>, now: &Seq<ImageFile>) {
-    assert_eq!(rt; now.len(), was.len());
-    for (old, new) in was.as_slice().iter().zip(now.as_slice()) {
-        assert_eq!(rt; (new.id, new.place), (old.id, old.place));
-        assert!(rt; new.bytes.as_slice() == old.bytes.as_slice());
-    }
-}
-
 // A show ends with this status and answers this, no file changes, and neither script nor serials are touched.
 fn check_show(
     rt: &impl Abort,
@@ -61,7 +55,10 @@ fn check_show(
     site: &mut MemSite,
     status: u8,
     text: &str,
-) -> Result<(), Fail> {
+) -> Result<(), Fail>
+    requires quiet { Rests site.old }
+    ensures rests { IfOk result (λ _. status ≡ 0 → Rests site.new) }
+{
     let words = words_of(alloc, "d show")?;
     let mut source = MemSource::new(alloc, Bytes::new(alloc, b"queue z\n")?, 9);
     let mut serials = MemSerials::counting(7);
@@ -86,7 +83,7 @@ fn check_show(
 fn a_show_answers_the_settled_state(rt: HostRuntime) -> Result<(), Fail> {
     let alloc = rt.alloc();
     for (script, text) in SHOWN {
-        let mut site = MemSite::new(alloc);
+        let mut site = new_site(alloc);
         let bytes = Bytes::new(alloc, script.as_bytes())?;
         let status = run_on(alloc, "d run 1 4", bytes, 65_536, &mut site)?;
         assert_eq!(rt; status, 0, "{script}");
@@ -97,7 +94,7 @@ fn a_show_answers_the_settled_state(rt: HostRuntime) -> Result<(), Fail> {
 }
 
 // The prepared list's file, with one entry of one phase.
-fn list_file(alloc: Global) -> Result<ImageFile, Fail>
+pub(crate) fn list_file(alloc: Global) -> Result<ImageFile, Fail>
     ensures id { IfOk result (λ file. file.id ≡ 2) }
 {
     let mut bytes = Bytes::new(alloc, b"")?;
@@ -115,7 +112,7 @@ fn list_file(alloc: Global) -> Result<ImageFile, Fail>
 #[test]
 fn an_entry_of_one_phase_is_not_in_doubt(rt: HostRuntime) -> Result<(), Fail> {
     let alloc = rt.alloc();
-    let mut site = MemSite::new(alloc);
+    let mut site = new_site(alloc);
     let script = Bytes::new(alloc, b"queue a\nbegin 01\nput a 0a in 01\n")?;
     let status = run_on(alloc, "d run 1 4", script, 9, &mut site)?;
     assert_eq!(rt; status, 0);
@@ -128,13 +125,13 @@ fn an_entry_of_one_phase_is_not_in_doubt(rt: HostRuntime) -> Result<(), Fail> {
         bytes: one.bytes,
     })?;
     files.push(list_file(alloc)?)?;
-    let mut site = MemSite::from_image(alloc, files)?;
+    let mut site = site_on(alloc, files)?;
     let text = "queues 1\nqueue a last 1 messages 0\ndoubt 0\n";
     check_show(&rt, alloc, &mut site, 0, text)
 }
 
 // A queue's file with message 1, with another byte at the place.
-fn changed_file(alloc: Global, at: usize, byte: u8) -> Result<ImageFile, Fail> {
+pub(crate) fn changed_file(alloc: Global, at: usize, byte: u8) -> Result<ImageFile, Fail> {
     let mut bytes = Vec::new(alloc);
     for (place, old) in file_with_a_message(alloc)?.as_slice().iter().enumerate() {
         bytes.push(if place == at { byte } else { *old })?;
@@ -161,7 +158,7 @@ fn a_show_answers_the_first_damage(rt: HostRuntime) -> Result<(), Fail> {
     ] {
         let mut files = Seq::new(alloc);
         files.push(file)?;
-        let mut site = MemSite::from_image(alloc, files)?;
+        let mut site = site_on(alloc, files)?;
         check_show(&rt, alloc, &mut site, 3, line)?;
     }
     Ok(())
@@ -173,7 +170,7 @@ fn a_fault_ends_a_show_without_an_answer(rt: HostRuntime) -> Result<(), Fail> {
     for kind in [CallKind::List, CallKind::Read, CallKind::Answer] {
         let mut files = Seq::new(alloc);
         files.push(changed_file(alloc, 8_191, 0xff)?)?;
-        let mut site = MemSite::from_image(alloc, files)?;
+        let mut site = site_on(alloc, files)?;
         site.fail_call(kind, 1)?;
         check_show(&rt, alloc, &mut site, 5, "")?;
     }
