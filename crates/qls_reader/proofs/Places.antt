@@ -4,19 +4,6 @@ use Rattle.qls_reader.specs.declared.spot.FileSpot.{FileSpot}
 use Rattle.qls_reader.specs.Spots.{data_length, all_length, first_spot, end_spot}
 use Rattle.qls_reader.specs.Places.{IsWithin}
 
--- the place lies in the first file, or at its end
-abbrev pub IsAtMost : ℕ → List FileSpot → Type 0
-IsAtMost p [] = Unit {0}
-IsAtMost p (s ∷ ss) = p ≤ data_length s
-
-pub at_most_zero : (ss : List FileSpot) → IsAtMost 0 ss
-at_most_zero [] = tt
-at_most_zero (s ∷ ss) = omega arith
-
-pub at_most_within : (p : ℕ) (ss : List FileSpot) → IsWithin p ss → IsAtMost p ss
-at_most_within p [] h = tt
-at_most_within p (s ∷ ss) h = omega arith
-
 pub not_before : (p s : ℕ) → s ≤ p → ltb p s ≡ false
 not_before p s h = grind arith
 
@@ -60,6 +47,12 @@ all_of [] zero w l h = omega arith
 all_of [] (suc k) w l h = omega arith
 all_of (s ∷ ss) zero w l h = absurd (omega arith)
 all_of (s ∷ ss) (suc k) w l h = omega (arith, all_of ss k w (omega arith) h)
+
+pub at_most_all : (files : List FileSpot) (k w : ℕ) → k ≤ length files → IsWithin w (drop k files) → all_length (take k files) + w ≤ all_length files
+at_most_all [] zero w l h = omega (arith, h)
+at_most_all [] (suc k) w l h = absurd (omega arith)
+at_most_all (s ∷ ss) zero w l h = omega (arith, h)
+at_most_all (s ∷ ss) (suc k) w l h = omega (arith, at_most_all ss k w (omega arith) h)
 
 -- ---- one file further
 

@@ -53,6 +53,24 @@ spots_rest (suc k) [] (f ∷ fs) h = absurd h
 spots_rest (suc k) (s ∷ ss) [] h = absurd h
 spots_rest (suc k) (s ∷ ss) (f ∷ fs) h = spots_rest k ss fs h.1
 
+past : (a b : List ℕ) (p : ℕ) → length a ≤ p → drop p (a ++ b) ≡ drop (p - length a) b
+past [] b p l = ap (λ n. drop n b) (omega arith)
+past (x ∷ a) b zero l = absurd (omega arith)
+past (x ∷ a) b (suc p) l = past a b p (omega arith) ∙ ap (λ n. drop n b) (omega arith)
+
+nothing : (n : ℕ) → drop n (stream []) ≡ []
+nothing zero = refl
+nothing (suc n) = refl
+
+-- a place of all the files, and of those behind some
+pub rest_on : (k w : ℕ) (ss : List FileSpot) (c : Content) → AreThere ss c → drop (all_length (take k ss) + w) (stream_on c.now.disk ss) ≡ drop w (stream_on c.now.disk (drop k ss))
+rest_on zero w ss c h = ap (λ p. drop p (stream_on c.now.disk ss)) (omega arith)
+rest_on (suc k) w [] c h = nothing (all_length (take (suc k) []) + w) ∙ sym (nothing w)
+rest_on (suc k) w (s ∷ ss) c h =
+    let size = length-area s c h.0 in
+    past (area_on c.now.disk s) (stream_on c.now.disk ss) (data_length s + all_length (take k ss) + w) (omega (arith, size))
+    ∙ ap (λ p. drop p (stream_on c.now.disk ss)) (omega (arith, size)) ∙ rest_on k w ss c h.1
+
 -- ---- the file that holds a place
 
 behind : (f : Headed) (fs : List Headed) (p : ℕ) → length f.area ≤ p → holder (f ∷ fs) p ≡ holder fs (p - length f.area)
@@ -74,21 +92,12 @@ holder_rest (suc k) w (s ∷ ss) (f ∷ fs) h =
 pub stream_rest : (k w : ℕ) (ss : List FileSpot) (fs : List Headed) → AreSpotsOf ss fs → drop (all_length (take k ss) + w) (stream fs) ≡ drop w (stream (drop k fs))
 stream_rest zero w ss fs h = ap (λ p. drop p (stream fs)) (omega arith)
 stream_rest (suc k) w [] [] h = nothing (all_length (take (suc k) []) + w) ∙ sym (nothing w)
-  where
-    nothing : (n : ℕ) → drop n (stream []) ≡ []
-    nothing zero = refl
-    nothing (suc n) = refl
 stream_rest (suc k) w [] (f ∷ fs) h = absurd h
 stream_rest (suc k) w (s ∷ ss) [] h = absurd h
 stream_rest (suc k) w (s ∷ ss) (f ∷ fs) h =
     let size = h.0.size in
     past f.area (stream fs) (data_length s + all_length (take k ss) + w) (omega (arith, size))
     ∙ ap (λ p. drop p (stream fs)) (omega (arith, size)) ∙ stream_rest k w ss fs h.1
-  where
-    past : (a b : List ℕ) (p : ℕ) → length a ≤ p → drop p (a ++ b) ≡ drop (p - length a) b
-    past [] b p l = ap (λ n. drop n b) (omega arith)
-    past (x ∷ a) b zero l = absurd (omega arith)
-    past (x ∷ a) b (suc p) l = past a b p (omega arith) ∙ ap (λ n. drop n b) (omega arith)
 
 holder_first : (w : ℕ) (s : FileSpot) (f : Headed) (fs : List Headed) → IsSpotOf s f → w < data_length s → holder (f ∷ fs) w ≡ Some (record { file = f; within = w })
 holder_first w s f fs h l = inside f fs w (omega (arith, h.size, l))

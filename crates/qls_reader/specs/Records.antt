@@ -1,5 +1,5 @@
 -- The record at a place of the first of some files.
-use Rattle.std.specs.Prelude.{◌≡◌, ℕ, ◌+◌, ◌≤◌, List, [], ◌∷◌, take, drop, Option, None}
+use Rattle.std.specs.Prelude.{ℕ, ◌+◌, List, [], ◌∷◌, take, drop, Option, None}
 use Rattle.qls_shape.specs.declared.Version.TheVariants.{Two}
 use Rattle.qls_record.specs.declared.Head.{Head}
 use Rattle.qls_record.specs.Record.{Record, header_length}
@@ -21,9 +21,3 @@ body_place h = header_length Two h.kind + h.xid_size
 -- the record of a head, whose xid and body stand behind the header
 abbrev pub record_from : List ℕ → Head → Record
 record_from bytes h = record_with h (take h.xid_size (drop (header_length Two h.kind) bytes)) (take h.body_size (drop (body_place h) bytes))
-
--- the bytes are the first of all, and so many at least
-pub record IsFront (least : ℕ) (bytes all : List ℕ) : Type 0 where
-  pub count : ℕ
-  pub enough : least ≤ count
-  pub is : bytes ≡ take count all

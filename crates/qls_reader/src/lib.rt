@@ -2,15 +2,15 @@
 //!
 //! The data areas of an epoch's files are joined to one stream. A [`Reader`] hands out the record that stands at its
 //! place, whole and located in its files, and goes on behind it. It ends at the first place where no record is spelled
-//! for the serial of the file that holds the place, and never looks behind that.
+//! for the serial of the file that holds the place, whatever stands behind that. It reads ahead, each byte once.
 #![tactic(auto)]
 
 mod fault;
-mod fill;
 mod laws;
 mod reader;
 mod record;
 mod spot;
+mod window;
 
 pub use fault::ReadFault;
 pub use laws::spots_are_of_files;

@@ -125,21 +125,3 @@ pub fn ending(files: &[FileSpot], at: Position) -> EndSpot
         at: 4096 + data_length(last),
     }
 }
-
-/// How many bytes there are from a place of the first file on, and `most` where there are more.
-pub fn left(files: &[FileSpot], within: u64, most: u64) -> u64
-    requires within { IsWithin within files.now }
-    requires few { most ≤ 2 ^ 42 }
-    ensures exact { result ≡ min most (all_length files.now - within) }
-{
-    let mut found = 0;
-    let mut at = within;
-    for spot in files {
-        if found >= most {
-            return most;
-        }
-        found += data_length(spot) - at;
-        at = 0;
-    }
-    found.min(most)
-}

@@ -4,6 +4,7 @@ ghost use Rattle.qls_record.specs.Head.{is_legal_head, head_record_length};
 ghost use Rattle.qls_site.specs.Disk.{file_of};
 ghost use Rattle.qls_memsite.specs.Memory.{content_of};
 ghost use Rattle.qls_reader.specs.Spots.{HasSize, AreThere};
+ghost use Rattle.qls_reader.specs.States.{ReadsAhead};
 
 use crate::{FileSpot, Next, ReadFault, Reader};
 use qls_memsite::{CallKind, MemSite};
@@ -124,7 +125,9 @@ struct Reading {
 // Reads on to the end, a hundred records at most.
 fn read_all<S: Site>(alloc: Global, reader: &mut Reader, site: &mut S) -> Result<Reading, ReadFault>
     requires there { IfSome (S.told site.old) (AreThere reader.old.files) }
+    requires ahead { IfSome (S.told site.old) (λ c. ReadsAhead c.now.disk reader.old) }
     ensures there { IfSome (S.told site.new) (AreThere reader.new.files) }
+    ensures ahead { IfSome (S.told site.new) (λ c. ReadsAhead c.now.disk reader.new) }
 {
     let mut records = Vec::new(alloc);
     for _ in 0..100 {
@@ -221,5 +224,19 @@ fn after_a_fault_the_record_is_read(rt: HostRuntime) -> Result<(), Fail> {
     assert!(rt; matches!(failed, Err(ReadFault::Failed)));
     let reading = read_all(alloc, &mut reader, &mut site)?;
     assert_eq!(rt; reading.records.len(), 32);
+    Ok(())
+}
+
+#[test]
+fn each_file_is_read_once(rt: HostRuntime) -> Result<(), Fail> {
+    let alloc = rt.alloc();
+    let mut site = site_of(alloc, &areas(alloc)?)?;
+    site.fail_call(CallKind::Read, 3)?;
+    let mut files = Seq::new(alloc);
+    files.push(spot(1, 7, 4096))?;
+    files.push(spot(2, 8, 4224))?;
+    let mut reader = Reader::new(alloc, files, true);
+    let reading = read_all(alloc, &mut reader, &mut site)?;
+    assert_eq!(rt; reading.records.len(), 32, "a third read would fail");
     Ok(())
 }

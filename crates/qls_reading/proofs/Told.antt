@@ -14,7 +14,8 @@ use Rattle.qls_scan.proofs.HeadSteps.{looked_back}
 use Rattle.qls_reader.specs.Spots.{all_length, end_spot, AreSpotsOf, AreSeen, AreThere}
 use Rattle.qls_reader.specs.declared.spot.FileSpot.{FileSpot}
 use Rattle.qls_reader.specs.Reads.{OnlyReads}
-use Rattle.qls_reader.specs.States.{ReaderState, ReadsNext, Steps}
+use Rattle.qls_reader.specs.Windows.{AreAhead}
+use Rattle.qls_reader.specs.States.{ReaderState, ReadsAhead, ReadsNext, Steps}
 use Rattle.qls_reader.specs.declared.fault.ReadFault.{ReadFault}
 use Rattle.qls_reader.specs.declared.reader.Next.{Next}
 use Rattle.qls_reader.specs.declared.reader.Next.TheVariants as next
@@ -39,6 +40,11 @@ only_looks a b r = record { now = r.now; since = (r.count, r.moments) }
 pub looks_none : (a : Option Content) → Tells OnlyLooks a a
 looks_none None = tt
 looks_none (Some c) = OnlyLooks-none c
+
+-- a reader that has read nothing yet
+pub none_ahead : (a : Option Content) (r : ReaderState) → r.held ≡ [] → IfSome a (λ c. ReadsAhead c.now.disk r)
+none_ahead None r e = tt
+none_ahead (Some c) r e = subst (λ (bs : List ℕ). AreAhead c.now.disk r.files r.place bs) (sym e) refl
 
 -- what a step says by its answer alone
 pub steps_on : (old new : ReaderState) (r : Next) (got : Got) → r ≡ next.Got got → Steps old new (Ok r) → (new.ended ≡ false) × (new.files ≡ old.files)

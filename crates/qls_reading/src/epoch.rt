@@ -1,5 +1,5 @@
 // The reading of an epoch.
-ghost use Rattle.std.specs.Prelude.{◌≡◌, ◌<◌, ◌≤◌, ℕ, false, length, map, Err, IfOk, IfSome};
+ghost use Rattle.std.specs.Prelude.{◌≡◌, ◌<◌, ◌≤◌, ℕ, [], false, length, map, Err, IfOk, IfSome};
 ghost use Rattle.std.specs.List.{AllByRecursion};
 ghost use Rattle.qls_site.specs.Content.{Tells, OnlyLooks};
 ghost use Rattle.qls_scan.specs.Heads.{HasLegalHeader};
@@ -89,7 +89,7 @@ fn read_on<S: Site>(
     requires begun { IsBegun files.now from }
     requires legal { AllByRecursion HasLegalHeader files.now }
     requires counted { AreCounted files.now }
-    requires reader { reader.old ≡ record { files = map spot_of files.now; place = begin_of from.given (map spot_of files.now); ended = false } }
+    requires reader { reader.old ≡ record { files = map spot_of files.now; place = begin_of from.given (map spot_of files.now); held = []; ended = false } }
     requires there { IfSome (S.told site.old) (AreOnSite files.now) }
     ensures says { IfSome (S.told site.old) (λ c. ReadsOn (files_on c.now.disk files.now) from tally.old tally.new result) }
     ensures given { IfOk result (λ _. (rid : ℕ) → IsTallied rid tally.old → IsTallied rid tally.new) }

@@ -1,4 +1,4 @@
-use Rattle.std.proofs.Common.{◌≡◌, false, ap, sym, subst, ◌∙◌, Result, Err, IfSome, ℕ, map, rules}
+use Rattle.std.proofs.Common.{◌≡◌, false, [], ap, sym, subst, ◌∙◌, Result, Err, IfSome, ℕ, map, rules}
 use Rattle.qls_reader.specs.Places.{AreSound}
 use Rattle.qls_reader.specs.Spots.{begin_of}
 use Rattle.qls_reading.specs.declared.fault.LogFault.{LogFault}
@@ -29,8 +29,8 @@ pub read_on-requires-clause-reader : goal.read_on-requires-clause-reader
 read_on-requires-clause-reader g c =
     let given = begun_given c.args.oldest c.args.tally.now.rid c.args.files.now c.in_ok-course.course (sym c.in_ok-course.ensures.exact) in
     c.new-reader.ensures.exact
-    ∙ ap (λ ss. record { files = ss; place = begin_of c.args.oldest ss; ended = false }) c.in_ok-spots.ensures.exact
-    ∙ ap (λ b. record { files = map spot_of c.args.files.now; place = begin_of b (map spot_of c.args.files.now); ended = false }) (sym given)
+    ∙ ap (λ ss. record { files = ss; place = begin_of c.args.oldest ss; held = []; ended = false }) c.in_ok-spots.ensures.exact
+    ∙ ap (λ b. record { files = map spot_of c.args.files.now; place = begin_of b (map spot_of c.args.files.now); held = []; ended = false }) (sym given)
 
 pub returns-in_err-end-clause-says : goal.returns-in_err-end-clause-says
 returns-in_err-end-clause-says g c =

@@ -6,7 +6,7 @@ use Rattle.qls_reading.specs.declared.rules.Course.{Course}
 use Rattle.qls_reading.specs.declared.fault.LogFault.{LogFault}
 use Rattle.qls_reading.specs.declared.fault.LogFault.TheVariants.{Damaged}
 use Rattle.qls_reading.specs.Left.{files_on, ReadsOn}
-use Rattle.qls_reading.proofs.Told.{looks_none, looks_on, ends_at, steps_on, still_there, reads_back, told_takes, told_refuses, told_ends, told_refuses_end, told_full, told_refuses_full}
+use Rattle.qls_reading.proofs.Told.{looks_none, none_ahead, looks_on, ends_at, steps_on, still_there, reads_back, told_takes, told_refuses, told_ends, told_refuses_end, told_full, told_refuses_full}
 use Rattle.qls_reading.proofs.epoch.read_on.Goals as goal
 
 pub loop-init : goal.loop-init
@@ -15,6 +15,7 @@ loop-init g c = record {
       (ap (λ r. r.place) c.requires.reader) (omega (arith, c.units-end.ensures.exact));
   files = ap (λ r. r.files) c.requires.reader;
   going = ap (λ r. r.ended) c.requires.reader;
+  ahead = none_ahead (g.S.Site.told c.args.site.now) c.args.reader.now (ap (λ r. r.held) c.requires.reader);
   within = begun_within c.args.files.now c.args.from c.requires.begun;
   some = begun_some c.args.files.now c.args.from c.requires.begun;
   given = λ rid h. h;
@@ -26,6 +27,7 @@ loop-init g c = record {
 pub next-requires : goal.next-requires
 next-requires g c = record {
   there = still_there (g.S.Site.told c.args.site.now) (g.S.Site.told c.loop.site) c.args.files.now c.loop.reader.files c.loop.invariant.told c.requires.there c.loop.invariant.files;
+  ahead = c.loop.invariant.ahead;
 }
 
 pub returns-in_err-file-clause-told : goal.returns-in_err-file-clause-told
@@ -92,6 +94,7 @@ loop-preserved g c =
           c.in_ok-course-in-Got.course c.requires.there c.loop-test.true so.way reads c.in_ok-course-in-Got.ensures.takes;
       files = steps.1 ∙ so.files;
       going = steps.0;
+      ahead = c.next.ensures.ahead;
       within = c.in_ok-course-in-Got.ensures.within;
       some = omega (arith, so.some, c.in_ok-course-in-Got.ensures.onward);
       given = λ rid h. tallied_more rid c.args.files.now c.loop.course c.in_ok-course-in-Got.course c.loop.tally c.take.new.tally c.in-Got.got (so.given rid h) c.in_ok-course-in-Got.ensures.takes;
