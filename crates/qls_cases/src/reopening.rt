@@ -205,6 +205,32 @@ fn a_file_that_a_crash_left_behind_goes_back(rt: HostRuntime) -> Result<(), Fail
     Ok(())
 }
 
+// Two queues of two files each, and in each block a message and 31 fillers: an opening makes eight reads, one of each header and
+// one of each data area, so that the eighth fails it and a ninth never comes.
+#[test]
+fn an_opening_reads_each_file_once(rt: HostRuntime) -> Result<(), Fail> {
+    let alloc = rt.alloc();
+    for (failing, status, answers) in [(8, 5, ""), (9, 0, "ok 2\n1 ready 01\n2 ready 02\n")] {
+        let mut site = new_site(alloc);
+        let script = "queue a\nqueue b\nput a 01\nput a 02\nput b 01\nput b 02\n";
+        let replies = "ok\nok\nok 1\nok 2\nok 1\nok 2\n";
+        check_run(&rt, alloc, &mut site, "d run 1 4", 7, script, replies)?;
+        let files = image_before_end(&rt, alloc, &site, 0)?;
+        assert_eq!(rt; files.len(), 4);
+        let before = site.answered().len();
+        site.fail_call(CallKind::Read, failing)?;
+        let script = Bytes::new(alloc, b"list a\n")?;
+        let ended = run_from(alloc, "d run 1 4", script, 9, 107, &mut site)?;
+        assert_eq!(rt; ended, status, "{failing}");
+        assert_eq!(rt;
+            site.answered().get(before..),
+            Some(answers.as_bytes()),
+            "{failing}"
+        );
+    }
+    Ok(())
+}
+
 // ---- a damaged store
 
 // A run on a store of this one file ends with the line of its damage; no file changes, and neither script nor serials are

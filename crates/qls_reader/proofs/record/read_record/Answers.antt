@@ -42,4 +42,4 @@ returns-clause-sizes g c =
     (fits_there (get_or c.args.files.now c.args.window.now.at.file none).serial _ c.read_whole.result
     (c.read_whole.ensures.exact
     ∙ ap (λ (bs : List ℕ). option_map head_of (record_at Two (get_or c.args.files.now c.args.window.now.at.file none).serial bs))
-      (slice_from c.read_ahead-2.new.window.passed c.deref-2.result.now c.read_ahead-2.new.window.bytes.items c.deref-2.ensures.value)))
+    (slice_from c.read_ahead-2.new.window.passed c.deref-2.result.now c.read_ahead-2.new.window.bytes.items c.deref-2.ensures.value)))
