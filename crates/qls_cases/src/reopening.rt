@@ -205,29 +205,40 @@ fn a_file_that_a_crash_left_behind_goes_back(rt: HostRuntime) -> Result<(), Fail
     Ok(())
 }
 
-// Two queues of two files each, and in each block a message and 31 fillers: an opening makes eight reads, one of each header and
-// one of each data area, so that the eighth fails it and a ninth never comes.
+// A run that opens a store of two queues with two files each, where this read fails, ends with this status and this answer.
+fn check_reads(
+    rt: &impl Abort,
+    alloc: Global,
+    failing: u64,
+    status: u8,
+    answer: &str,
+) -> Result<(), Fail> {
+    let mut site = new_site(alloc);
+    let script = "queue a\nqueue b\nput a 01\nput a 02\nput b 01\nput b 02\n";
+    let replies = "ok\nok\nok 1\nok 2\nok 1\nok 2\n";
+    check_run(rt, alloc, &mut site, "d run 1 4", 7, script, replies)?;
+    let files = image_before_end(rt, alloc, &site, 0)?;
+    assert_eq!(rt; files.len(), 4);
+    let before = site.answered().len();
+    site.fail_call(CallKind::Read, failing)?;
+    let script = Bytes::new(alloc, b"list a\n")?;
+    let ended = run_from(alloc, "d run 1 4", script, 9, 107, &mut site)?;
+    assert_eq!(rt; ended, status, "{failing}");
+    assert_eq!(rt;
+        site.answered().get(before..),
+        Some(answer.as_bytes()),
+        "{failing}"
+    );
+    Ok(())
+}
+
+// In each block are a message and 31 fillers. An opening makes eight reads, one of each header and one of each data area, so
+// that the eighth fails it and a ninth never comes.
 #[test]
 fn an_opening_reads_each_file_once(rt: HostRuntime) -> Result<(), Fail> {
     let alloc = rt.alloc();
-    for (failing, status, answers) in [(8, 5, ""), (9, 0, "ok 2\n1 ready 01\n2 ready 02\n")] {
-        let mut site = new_site(alloc);
-        let script = "queue a\nqueue b\nput a 01\nput a 02\nput b 01\nput b 02\n";
-        let replies = "ok\nok\nok 1\nok 2\nok 1\nok 2\n";
-        check_run(&rt, alloc, &mut site, "d run 1 4", 7, script, replies)?;
-        let files = image_before_end(&rt, alloc, &site, 0)?;
-        assert_eq!(rt; files.len(), 4);
-        let before = site.answered().len();
-        site.fail_call(CallKind::Read, failing)?;
-        let script = Bytes::new(alloc, b"list a\n")?;
-        let ended = run_from(alloc, "d run 1 4", script, 9, 107, &mut site)?;
-        assert_eq!(rt; ended, status, "{failing}");
-        assert_eq!(rt;
-            site.answered().get(before..),
-            Some(answers.as_bytes()),
-            "{failing}"
-        );
-    }
+    check_reads(&rt, alloc, 8, 5, "")?;
+    check_reads(&rt, alloc, 9, 0, "ok 2\n1 ready 01\n2 ready 02\n")?;
     Ok(())
 }
 

@@ -265,12 +265,22 @@ fn the_records_come_in_order(rt: HostRuntime) -> Result<(), Fail> {
 
 #[test]
 fn a_read_that_fails_is_answered(rt: HostRuntime) -> Result<(), Fail> {
-    for n in [6, 7, 20] {
+    for n in [6, 7, 9] {
         let alloc = rt.alloc();
         let mut site = site_of(alloc, &HEADERS, RECORDS)?;
         site.fail_call(CallKind::Read, n)?;
         assert_eq!(rt; read(alloc, &mut site)?.err(), Some(LogFault::Failed));
         assert!(rt; read(alloc, &mut site)?.is_ok());
     }
+    Ok(())
+}
+
+// Behind the five headers the four files that the reading comes to are read in one piece each: a tenth read would fail.
+#[test]
+fn each_file_is_read_once(rt: HostRuntime) -> Result<(), Fail> {
+    let alloc = rt.alloc();
+    let mut site = site_of(alloc, &HEADERS, RECORDS)?;
+    site.fail_call(CallKind::Read, 10)?;
+    assert!(rt; read(alloc, &mut site)?.is_ok());
     Ok(())
 }
