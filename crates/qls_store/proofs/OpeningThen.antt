@@ -1,5 +1,5 @@
 -- Calls on the journals behind their opening, seen from the first moment on.
-use Rattle.std.proofs.Common.{◌≡◌, ◌⊎◌, inl, inr, ℕ, ◌≤◌, Bool, true, false, List, [], ◌++◌, map, Option, Some, None, IfSome, Result, Ok, Err, IfOk, refl, sym, ap, ◌∙◌, subst, arith}
+use Rattle.std.proofs.Common.{◌≡◌, length, ◌<◌, ◌⊎◌, inl, inr, ℕ, ◌≤◌, Bool, true, false, List, [], ◌++◌, map, Option, Some, None, IfSome, Result, Ok, Err, IfOk, refl, sym, ap, ◌∙◌, subst, arith}
 use Rattle.std.specs.List.{AllByRecursion, slice_get}
 use Rattle.qls_model.specs.declared.machine.PoolId.{PoolId}
 use Rattle.qls_model.specs.declared.machine.QueueState.{QueueState}
@@ -153,13 +153,16 @@ module _ (home : PoolId) (j : JournalsState) (homed : j.home ≡ home) where
     there = ap (λ (qs : List QueueState). slice_get qs s.at) (sym h.queues) ∙ s.there;
     ends = s.stops.ends;
     planned = subst (λ (es : List ListEntry). AreItsEnds es s.queue s.stops.ends) h.entries s.stops.planned;
+    written = s.stops.written;
     spent = at_end_on x y h journal.Queue s.queue.name (end_records s.queue.last s.stops.ends) z.now.disk e;
   })
 
-  needs_list : (x y : Content) → Opens j x y → (z : Content) → batch_at_end (homes_of j) journal.List [] (list_ends (rid_of j.list) (settled_xids j.list.entries)) z.now.disk ≡ true → NeedsEnds home x.now.disk z.now.disk
-  needs_list x y h z e =
-      inr (at_end_on x y h journal.List [] (list_ends (list_rid x.now.disk) (settled_xids (entries_of (journals_of (full x.now.disk))))) z.now.disk
-      (subst (λ rs. batch_at_end (homes_of j) journal.List [] rs z.now.disk ≡ true) (λ i. list_ends (h.rid i) (settled_xids (h.entries i))) e))
+  needs_list : (x y : Content) → Opens j x y → (z : Content) → 0 < length (settled_xids j.list.entries) → batch_at_end (homes_of j) journal.List [] (list_ends (rid_of j.list) (settled_xids j.list.entries)) z.now.disk ≡ true → NeedsEnds home x.now.disk z.now.disk
+  needs_list x y h z some e = inr (record {
+    some = subst (λ (es : List ListEntry). 0 < length (settled_xids es)) h.entries some;
+    spent = at_end_on x y h journal.List [] (list_ends (list_rid x.now.disk) (settled_xids (entries_of (journals_of (full x.now.disk))))) z.now.disk
+        (subst (λ rs. batch_at_end (homes_of j) journal.List [] rs z.now.disk ≡ true) (λ i. list_ends (h.rid i) (settled_xids (h.entries i))) e);
+  })
 
   stops_at : (x y z : Content) → Opens j x y → StopsSettling j y z → OpeningStops home x z
   stops_at x y z h (inl s) = record {
@@ -167,8 +170,8 @@ module _ (home : PoolId) (j : JournalsState) (homed : j.home ≡ home) where
     meets = λ u. needs_queue x y h z s (s.stops.stops.meets (unmarked_rest IsStoreStep IsStoreStep x y z h.arrives (Passes-of IsStoreStep y z s.stops.stops.arrives) u) h.whole);
   }
   stops_at x y z h (inr s) = record {
-    arrives = Arrives-then IsStoreStep x y z h.arrives s.arrives;
-    meets = λ u. needs_list x y h z (s.meets (unmarked_rest IsStoreStep IsStoreStep x y z h.arrives (Passes-of IsStoreStep y z s.arrives) u) h.whole);
+    arrives = Arrives-then IsStoreStep x y z h.arrives s.stops.arrives;
+    meets = λ u. needs_list x y h z s.some (s.stops.meets (unmarked_rest IsStoreStep IsStoreStep x y z h.arrives (Passes-of IsStoreStep y z s.stops.arrives) u) h.whole);
   }
 
   pub opening_stops : (a b c : Option Content) → Tells (Opens j) a b → Tells (StopsSettling j) b c → Tells (OpeningStops home) a c

@@ -1,10 +1,10 @@
 -- The calls by which a store is settled, one after another.
-use Rattle.std.proofs.Common.{◌≡◌, ◌⊎◌, inl, inr, ℕ, true, false, List, [], Option, Some, None, IfSome, Result, Ok, Err, IfOk, refl, sym, ap, subst, ◌∙◌, arith}
+use Rattle.std.proofs.Common.{◌≡◌, ◌⊎◌, inl, inr, ℕ, ◌<◌, true, false, List, [], length, Option, Some, None, IfSome, Result, Ok, Err, IfOk, refl, sym, ap, subst, ◌∙◌, arith}
 use Rattle.std.specs.List.{AllByRecursion}
 use Rattle.qls_model.specs.declared.machine.QueueState.{QueueState}
 use Rattle.qls_model.specs.Messages.{decided}
 use Rattle.qls_site.specs.Content.{Content, Tells, moments_since}
-use Rattle.qls_site.proofs.Told.{Tells-weaken}
+use Rattle.qls_site.proofs.Told.{Tells-then, Tells-weaken}
 use Rattle.qls_decide.specs.declared.ListEntry.{ListEntry}
 use Rattle.qls_decide.specs.Entries.{verdict_by}
 use Rattle.qls_filehdr.specs.declared.JournalKind.TheVariants as journal
@@ -26,7 +26,7 @@ use Rattle.qls_store.specs.Calls.{Calls}
 use Rattle.qls_store.specs.Opening.{settled_xids}
 use Rattle.qls_store.specs.Settling.{EndsClean, IsDoubted, IsSettledSo, StaysIfClean, StopsInList, StopsInQueues, StopsSettling}
 use Rattle.qls_store.proofs.Resting.{drawn_untaken}
-use Rattle.qls_store.proofs.SettledQueues.{told_stops_later}
+use Rattle.qls_store.proofs.SettledQueues.{stops_later}
 
 -- ---- the queues, and then the list
 
@@ -35,9 +35,21 @@ stops_first was a b h = Tells-weaken (StopsInQueues was) (StopsSettling was) a b
 
 pub stops_then : (was mid : JournalsState) → SameHomes (homes_of mid) (homes_of was) → mid.list ≡ was.list → (a b c : Option Content) → Tells (Changes was mid) a b → Tells (StopsInList mid) b c → Tells (StopsSettling was) a c
 stops_then was mid homes list a b c h k =
-    Tells-weaken (StopsInList was) (StopsSettling was) a c
-    (told_stops_later was mid homes journal.List [] (list_ends (rid_of was.list) (settled_xids was.list.entries)) a b c h
-    (subst (λ (p : PreparedState). Tells (StopsAtEnd mid journal.List [] (list_ends (rid_of p) (settled_xids p.entries))) b c) list k)) (λ x y m. inr m)
+    Tells-then (Changes was mid) (StopsInList mid) (StopsSettling was) a b c h k (λ x y z m n. inr (record {
+      some = subst (λ (p : PreparedState). 0 < length (settled_xids p.entries)) list n.some;
+      stops = stops_later was mid homes journal.List [] (list_ends (rid_of was.list) (settled_xids was.list.entries)) x y z m
+          (subst (λ (p : PreparedState). StopsAtEnd mid journal.List [] (list_ends (rid_of p) (settled_xids p.entries)) y z) list n.stops);
+    }))
+
+-- the batch of the list stopped there
+pub stops_in_list : (was : JournalsState) (xids : List (List ℕ)) (es : List ListEntry) (a b : Option Content) → xids ≡ settled_xids es → es ≡ was.list.entries → 0 < length xids
+    → Tells (StopsAtEnd was journal.List [] (list_ends (rid_of was.list) xids)) a b → Tells (StopsInList was) a b
+stops_in_list was xids es a b is of some h =
+    let all : xids ≡ settled_xids was.list.entries = is ∙ ap settled_xids of in
+    Tells-weaken (StopsAtEnd was journal.List [] (list_ends (rid_of was.list) xids)) (StopsInList was) a b h (λ x y k. record {
+      some = subst (λ (ys : List (List ℕ)). 0 < length ys) all some;
+      stops = subst (λ (ys : List (List ℕ)). StopsAtEnd was journal.List [] (list_ends (rid_of was.list) ys) x y) all k;
+    })
 
 pub entries_as : (p q : PreparedState) (es : List ListEntry) → p ≡ q → es ≡ q.entries → es ≡ p.entries
 entries_as p q es e h = h ∙ ap (λ (l : PreparedState). l.entries) (sym e)

@@ -28,7 +28,7 @@ use Rattle.qls_journals.specs.declared.cause.Cause.{Cause}
 use Rattle.qls_journals.specs.Deciding.{AreEndedBefore, MayCarryOut, NonePending}
 use Rattle.qls_journals.specs.Ends.{StopsAtEnd}
 use Rattle.qls_journals.specs.State.{JournalsState, NamesRise, names_of, queues_of}
-use Rattle.qls_store.specs.Opening.{AreItsEnds}
+use Rattle.qls_store.specs.Opening.{AreItsEnds, AreToWrite}
 use Rattle.qls_store.specs.Settling.{IsDoubted, StopsInQueue}
 use Rattle.qls_store.specs.Table.{Rises}
 use Rattle.qls_store.proofs.Keys.{all_weaken, behind_differs, is_before, keyed_at}
@@ -203,11 +203,11 @@ place_doubted R es ends o some planned =
     if_there (λ q. AreItsEnds es q ends) (λ q. IsDoubted (verdict_by es) q → R) o (λ q there k. λ d. absurd (doubted_unplanned es q ends some k d)) planned
 
 -- the batch stopped there
-pub place_stops : (s : JournalsState) (at : ℕ) (es : List ListEntry) → es ≡ s.list.entries → (ends : List End) (a b : Option Content) → IfSome (slice_get (queues_of s) at) (λ q. AreItsEnds es q ends)
+pub place_stops : (s : JournalsState) (at : ℕ) (es : List ListEntry) → es ≡ s.list.entries → (ends : List End) → AreToWrite ends → (a b : Option Content) → IfSome (slice_get (queues_of s) at) (λ q. AreItsEnds es q ends)
     → IfSome (slice_get s.queues at) (λ q. Tells (StopsAtEnd s journal.Queue q.queue.name (end_records q.queue.last ends)) a b) → IfSome (slice_get (queues_of s) at) (λ q. Tells (StopsInQueue s q) a b)
-place_stops s at es is ends a b planned stops =
+place_stops s at es is ends written a b planned stops =
     if_both (λ q. AreItsEnds es q ends) (λ q. Tells (StopsAtEnd s journal.Queue q.name (end_records q.last ends)) a b) (λ q. Tells (StopsInQueue s q) a b) (slice_get (queues_of s) at)
     (λ q there k e.
     Tells-weaken (StopsAtEnd s journal.Queue q.name (end_records q.last ends)) (StopsInQueue s q) a b e
-    (λ x y h. record { ends = ends; planned = subst (λ fs. AreItsEnds fs q ends) is k; stops = h })) planned
+    (λ x y h. record { ends = ends; planned = subst (λ fs. AreItsEnds fs q ends) is k; written = written; stops = h })) planned
     (some_queue (λ q. Tells (StopsAtEnd s journal.Queue q.name (end_records q.last ends)) a b) s at stops)

@@ -149,6 +149,7 @@ module _ (was mid : JournalsState) (homes : SameHomes (homes_of mid) (homes_of w
     stops = record {
       ends = n.ends;
       planned = subst (λ (p : PreparedState). AreItsEnds p.entries q n.ends) list n.planned;
+      written = n.written;
       stops = stops_later journal.Queue q.name (end_records q.last n.ends) x y z m n.stops;
     };
   })

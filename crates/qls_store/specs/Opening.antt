@@ -1,6 +1,9 @@
 -- What the opening of a store answers, does and leaves.
-use Rattle.std.specs.Prelude.{◌≡◌, ◌⊎◌, ℕ, ◌≤◌, Bool, true, false, List, [], ◌∷◌, map, Option, Some, None, Result, Ok, Err, if◌then◌else◌}
+use Rattle.std.specs.Prelude.{◌≡◌, ◌⊎◌, ℕ, ◌<◌, ◌≤◌, Bool, true, false, List, [], ◌∷◌, length, map, Option, Some, None, Result, Ok, Err, if◌then◌else◌}
 use Rattle.std.specs.List.{AllByRecursion, filter, slice_get}
+use Rattle.std.specs.List.Sorted.{IsStrictlySortedBy}
+use Rattle.std.specs.Ordering.{nat_cmp}
+use Rattle.std.specs.Cmp.Lexicographic.{slice_cmp}
 use Rattle.qls_model.specs.Machine.{MachineState}
 use Rattle.qls_model.specs.declared.machine.PoolId.{PoolId}
 use Rattle.qls_model.specs.declared.machine.QueueState.{QueueState}
@@ -95,6 +98,11 @@ StaysIfSettled old new = IsSettled old.now.disk → AllByRecursion (λ m. m ≡ 
 abbrev pub AreItsEnds : List ListEntry → QueueState → List End → Type 0
 AreItsEnds es q ends = (x : List ℕ) → end_of x ends ≡ (if is_pending x q then end_by (verdict_by es x) x else None)
 
+-- they are there, in byte order and each once, so that these are the ends
+pub record AreToWrite (ends : List End) : Type 0 where
+  pub some : 0 < length ends
+  pub once : IsStrictlySortedBy (slice_cmp nat_cmp) (map (λ e. e.xid) ends)
+
 -- the batch of ends of a queue of the store as it was can't be had on the disk as it is
 pub record NeedsQueueEnds (home : PoolId) (was d : Disk) : Type 0 where
   pub at : ℕ
@@ -102,6 +110,7 @@ pub record NeedsQueueEnds (home : PoolId) (was d : Disk) : Type 0 where
   pub there : slice_get (queues_in (journals_of (full was))) at ≡ Some queue
   pub ends : List End
   pub planned : AreItsEnds (entries_of (journals_of (full was))) queue ends
+  pub written : AreToWrite ends
   pub spent : batch_at_end (homes_on home was) journal.Queue queue.name (end_records queue.last ends) d ≡ true
 
 -- the entry isn't in doubt, and ends when the store is opened
@@ -114,10 +123,10 @@ is_settled_by DecidedAbort = true
 abbrev pub settled_xids : List ListEntry → List (List ℕ)
 settled_xids es = map (λ e. e.xid) (filter (λ e. is_settled_by e.state) es)
 
--- the batch of ends of the prepared list can't be had
-abbrev pub NeedsListEnds : PoolId → Disk → Disk → Type 0
-NeedsListEnds home was d =
-    batch_at_end (homes_on home was) journal.List [] (list_ends (list_rid was) (settled_xids (entries_of (journals_of (full was))))) d ≡ true
+-- an entry of the prepared list ends, and the batch of such ends can't be had
+pub record NeedsListEnds (home : PoolId) (was d : Disk) : Type 0 where
+  pub some : 0 < length (settled_xids (entries_of (journals_of (full was))))
+  pub spent : batch_at_end (homes_on home was) journal.List [] (list_ends (list_rid was) (settled_xids (entries_of (journals_of (full was))))) d ≡ true
 
 abbrev pub NeedsEnds : PoolId → Disk → Disk → Type 0
 NeedsEnds home was d = NeedsQueueEnds home was d ⊎ NeedsListEnds home was d

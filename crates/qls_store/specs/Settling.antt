@@ -1,6 +1,6 @@
 -- What is settled as a store is opened: what is pending in the queues and not in doubt ends, and so do the entries of the list that are
 -- decided or of one phase.
-use Rattle.std.specs.Prelude.{◌≡◌, ◌⊎◌, ℕ, true, not, List, [], map, Some}
+use Rattle.std.specs.Prelude.{◌≡◌, ◌⊎◌, ℕ, ◌<◌, true, not, List, [], length, map, Some}
 use Rattle.std.specs.List.{AllByRecursion, filter, slice_get}
 use Rattle.qls_model.specs.Machine.{XidState}
 use Rattle.qls_model.specs.declared.machine.QueueState.{QueueState}
@@ -20,7 +20,7 @@ use Rattle.qls_prepared.specs.Lists.{rid_of}
 use Rattle.qls_prepared.specs.Records.{end_records as list_ends}
 use Rattle.qls_journals.specs.Ends.{StopsAtEnd}
 use Rattle.qls_journals.specs.State.{JournalsState, queues_of, IsWhole, IsClean}
-use Rattle.qls_store.specs.Opening.{AreItsEnds, is_settled_by, settled_xids}
+use Rattle.qls_store.specs.Opening.{AreItsEnds, AreToWrite, is_settled_by, settled_xids}
 use Rattle.qls_store.specs.Stores.{TransactionState, touched}
 
 -- ---- what is in doubt
@@ -52,6 +52,7 @@ doubt_in qs e = record { xid = e.xid; phase = phase.Prepared; queues = touched e
 pub record StopsInQueue (was : JournalsState) (q : QueueState) (old new : Content) : Type 0 where
   pub ends : List End
   pub planned : AreItsEnds was.list.entries q ends
+  pub written : AreToWrite ends
   pub stops : StopsAtEnd was journal.Queue q.name (end_records q.last ends) old new
 
 -- those of one of the queues
@@ -62,8 +63,9 @@ pub record StopsInQueues (was : JournalsState) (old new : Content) : Type 0 wher
   pub stops : StopsInQueue was queue old new
 
 -- those of the list
-abbrev pub StopsInList : JournalsState → Content → Content → Type 0
-StopsInList was old new = StopsAtEnd was journal.List [] (list_ends (rid_of was.list) (settled_xids was.list.entries)) old new
+pub record StopsInList (was : JournalsState) (old new : Content) : Type 0 where
+  pub some : 0 < length (settled_xids was.list.entries)
+  pub stops : StopsAtEnd was journal.List [] (list_ends (rid_of was.list) (settled_xids was.list.entries)) old new
 
 abbrev pub StopsSettling : JournalsState → Content → Content → Type 0
 StopsSettling was old new = StopsInQueues was old new ⊎ StopsInList was old new

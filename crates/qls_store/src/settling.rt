@@ -1,6 +1,9 @@
 // What an earlier run left pending, ended as a store is opened.
 ghost use Rattle.std.specs.Prelude.{◌≡◌, ◌<◌, Err, IfOk, IfSome, length, map, slice_get, take};
 ghost use Rattle.std.specs.List.{AllByRecursion};
+ghost use Rattle.std.specs.List.Sorted.{IsStrictlySortedBy};
+ghost use Rattle.std.specs.Ordering.{nat_cmp};
+ghost use Rattle.std.specs.Cmp.Lexicographic.{slice_cmp};
 ghost use Rattle.qls_model.specs.Machine.{change_queue};
 ghost use Rattle.qls_model.specs.Messages.{decided};
 ghost use Rattle.qls_site.specs.Content.{Tells};
@@ -130,6 +133,7 @@ fn ends_in(
 ) -> Result<Seq<End>, NoMemory>
     requires place { at < length journals.now.queues }
     ensures planned { IfOk result (λ ends. IfSome (slice_get (queues_of journals.now) at) (λ q. AreItsEnds entries.now q ends)) }
+    ensures once { IfOk result (λ ends. IsStrictlySortedBy (slice_cmp nat_cmp) (map (λ e. e.xid) ends)) }
     ensures xids { IfOk result (λ ends. AllByRecursion (λ e. IsXid e.xid) ends) }
     ensures decided { IfOk result (λ ends. MayCarryOut entries.now ends) }
 {

@@ -11,6 +11,7 @@ use Rattle.qls_journals.specs.State.{JournalsState, queues_of}
 use Rattle.qls_store.specs.Opening.{settled_xids}
 use Rattle.qls_store.specs.Settling.{entries_kept}
 use Rattle.qls_store.proofs.Together.{calls_memory, calls_none}
+use Rattle.qls_store.proofs.SettledCalls.{stops_in_list}
 use Rattle.qls_store.proofs.SettledPlan.{ok_so}
 use Rattle.qls_store.proofs.SettledList.{all_prepared, none_settled, settled_end, settled_leave, settled_once, settled_unpending}
 use Rattle.qls_store.proofs.settling.settle_list.Goals as goal
@@ -57,3 +58,11 @@ not_some n xs ys counted some is none = some (counted ∙ ap (λ (zs : List (Lis
 
 pub returns-clause-still : goal.returns-clause-still
 returns-clause-still g c = λ h. absurd (not_some c.len.result c.in_ok-xids.xids (settled_xids c.args.entries.now) c.len.ensures.counted c.if-len-eq0.false (c.in_ok-xids.ensures.xids ∙ ap settled_xids c.as_slice.ensures.same) (all_prepared c.args.entries.now h))
+
+some_xids : (n : ℕ) (xs : List (List ℕ)) → n ≡ length xs → (n ≡ 0 → ⊥) → 0 < length xs
+some_xids n xs counted some = omega (arith, counted, some)
+
+pub returns-clause-spent : goal.returns-clause-spent
+returns-clause-spent g c = λ e.
+    stops_in_list c.args.journals c.in_ok-xids.xids c.args.entries.now (g.S.Site.told c.args.site.now) (g.S.Site.told c.end_all.new.site) (c.in_ok-xids.ensures.xids ∙ ap settled_xids c.as_slice.ensures.same)
+    c.requires.entries (some_xids c.len.result c.in_ok-xids.xids c.len.ensures.counted c.if-len-eq0.false) (c.end_all.ensures.spent e)

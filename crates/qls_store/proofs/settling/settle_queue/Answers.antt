@@ -41,4 +41,6 @@ returns-clause-still g c =
     (some_ends c.len.result (length c.in_ok-ends.ends) c.len.ensures.counted c.if-len-eq0.false) c.in_ok-ends.ensures.planned
 
 pub returns-clause-spent : goal.returns-clause-spent
-returns-clause-spent g c = λ e. place_stops c.args.journals c.args.at c.args.entries.now c.requires.entries c.in_ok-ends.ends _ _ c.in_ok-ends.ensures.planned (c.finish.ensures.spent e)
+returns-clause-spent g c = λ e.
+    place_stops c.args.journals c.args.at c.args.entries.now c.requires.entries c.in_ok-ends.ends
+    (record { some = some_ends c.len.result (length c.in_ok-ends.ends) c.len.ensures.counted c.if-len-eq0.false; once = c.in_ok-ends.ensures.once }) _ _ c.in_ok-ends.ensures.planned (c.finish.ensures.spent e)
