@@ -45,58 +45,9 @@ tree() {
     find "$1" -type f -exec sha256sum {} + 2>/dev/null | sort
 }
 
-# ---- the format, as far as a queue with one message needs it, in hexadecimal
+# ---- a queue with one message
 
-# N times a byte
-repeat() { printf "%0.s$1" $(seq "$2"); }
-
-# N in W bytes, the least first
-little() {
-    local number=$1 at
-    for ((at = 0; at < $2; at++)); do
-        printf '%02x' $((number & 255))
-        number=$((number >> 8))
-    done
-}
-
-# Adler-32 of bytes in hexadecimal, the least byte first
-adler() {
-    local low=1 high=0 at
-    for ((at = 0; at < ${#1}; at += 2)); do
-        low=$(((low + 16#${1:at:2}) % 65521))
-        high=$(((high + low) % 65521))
-    done
-    little $((high * 65536 + low)) 4
-}
-
-# The header of a queue's first file: queue a, partition 1, 4 KiB; serial in hexadecimal
-header() {
-    local start
-    start=514c536602000000$1$(little 0 8)$(little 1 4)$(little 4 4)
-    start+=$(little 4096 8)$(little 1 8)$(little 1 8)$(little 1 2)$(little 1 2)61
-    printf '%s%s%s' "$start" "$(adler "$start")" "$(repeat 00 $((4096 - 65)))"
-}
-
-# Message 1 with the body 6869, padded to 128 bytes
-message() {
-    local record
-    record=514c536502000000$1$(little 1 8)$(little 0 8)$(little 2 8)6869
-    printf '%saeb3ac9a%s%s%s%s' "$record" "$(adler "$record")" "$1" "$(little 1 8)" "$(repeat ff 62)"
-}
-
-# A filler after message 1
-filler() { printf '514c537802000000%s%s%s' "$1" "$(little 1 8)" "$(repeat ff 104)"; }
-
-# The file of queue a with that message
-whole_file() {
-    local filler at
-    header "$1"
-    message "$1"
-    filler=$(filler "$1")
-    for ((at = 0; at < 31; at++)); do printf '%s' "$filler"; done
-}
-
-bytes_of() { od -An -v -tx1 "$1" | tr -d ' \n'; }
+. "$top/tests/format.sh"
 
 FIRST=0000000000000000001.qls
 UNFINISHED=0000000000000000001.new
@@ -615,6 +566,34 @@ printf 'put a 01\nqueue a\nqueue b\n' >three.txt
 run last run 1 4 <three.txt
 ended 9 'refused queue' 'counter spent'
 is 'what lies there' "$(tree last/empty)" "$before"
+
+scenario='a commit without a file for its last queue'
+printf 'queue a\nqueue b\nbegin 01\nput a 0a in 01\nput b 0b in 01\nprepare 01\n' >lines.txt
+run spent run 1 4 <lines.txt
+ended 0 $'ok\nok\nok\nok 1\nok 1\nok' ''
+mkdir -p spent/empty/2/4 spent/empty/1/4
+truncate -s 8192 spent/empty/2/4/4611686018427387903.qls
+# one for the list, where the commit is decided, one for queue a, and none for queue b
+truncate -s 8192 "spent/empty/1/4/0000000000000000004.qls" "spent/empty/1/4/0000000000000000005.qls"
+printf 'commit 01\nput a 01\n' >lines.txt
+run spent run 1 4 <lines.txt
+ended 9 '' 'counter spent'
+before=$(tree spent)
+run spent show </dev/null
+ended 0 $'queues 2\nqueue a last 1 messages 1\n1 ready 0a\nqueue b last 1 messages 1\n1 ready 0b\ndoubt 0' ''
+run spent run 1 4 </dev/null
+ended 9 '' 'counter spent'
+is 'what lies there' "$(tree spent)" "$before"
+# the opening ends it in queue b, and then in the list, whose older files go back
+printf 'put a 01\n' >lines.txt
+truncate -s 8192 "spent/empty/1/4/0000000000000000006.qls"
+run spent run 1 4 <lines.txt
+ended 9 '' 'counter spent'
+truncate -s 8192 "spent/empty/1/4/0000000000000000007.qls"
+run spent run 1 4 <lines.txt
+ended 0 'ok 2' ''
+run spent show </dev/null
+ended 0 $'queues 2\nqueue a last 2 messages 2\n1 ready 0a\n2 ready 01\nqueue b last 1 messages 1\n1 ready 0b\ndoubt 0' ''
 
 scenario='an empty file of another size'
 mkdir -p broken/empty/1/4

@@ -16,3 +16,4 @@ pub mod Working
 pub mod Replying
 pub mod Having
 pub mod Shown
+pub mod Completing

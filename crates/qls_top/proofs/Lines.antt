@@ -331,8 +331,9 @@ line_spent first s (Some old) (Some mid) (Some new) (Some script) (Some l) (Some
 
 -- no more was read than the limit, where a line ended the run
 pub read_so_far : (f : Fault) (a b : Option (List ℕ)) (budget : ℕ) → IsOfLine f → Counted script_limit a budget b (Ok true) → ReadsBytes (is_too_long (Err f)) a b
-read_so_far f None b budget only h = tt
-read_so_far f (Some l) None budget only h = tt
+read_so_far f None None budget only h = tt
+read_so_far f None (Some m) budget only h = absurd h
+read_so_far f (Some l) None budget only h = absurd h
 read_so_far f (Some l) (Some m) budget only h = subst (λ e. ReadBytes e l m) (sym (not_long f only)) (omega (arith, h))
   where
     not_long : (f : Fault) → IsOfLine f → is_too_long (Err f) ≡ false

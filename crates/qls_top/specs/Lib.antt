@@ -10,3 +10,4 @@ pub mod Running
 pub mod Run
 pub mod Shows
 pub mod Due
+pub mod Complete

@@ -334,8 +334,9 @@ ReadBytes false l m = length l ≤ length m + script_limit
 
 abbrev pub ReadsBytes : Bool → Option (List ℕ) → Option (List ℕ) → Type 0
 ReadsBytes long (Some l) (Some m) = ReadBytes long l m
-ReadsBytes long None m = Unit {0}
-ReadsBytes long (Some l) None = Unit {0}
+ReadsBytes long None None = Unit {0}
+ReadsBytes long None (Some m) = ⊥
+ReadsBytes long (Some l) None = ⊥
 
 abbrev pub is_too_long : Result (Unit {0}) Fault → Bool
 is_too_long (Err fault.TooLong) = true

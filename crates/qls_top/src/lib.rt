@@ -19,6 +19,7 @@ ghost use Rattle.qls_top.specs.Serials.{is_exact};
 ghost use Rattle.qls_top.specs.Due.{TakesDue};
 ghost use Rattle.qls_site.specs.Disk.{IsQuiet};
 ghost use Rattle.qls_top.specs.Run.{IfRun, IfShow, OfRun, RunsToEnd, ReadsBytes, is_too_long, is_status, ShowsIfDamaged, EndsClean, RepliesStored, RepliesClean, HadFiles, HadClean, EndsSpent, EndsSpentIn, TakesFilesInOrder, WritesFilesInOrder, KeepsDiscipline, LeavesClean, AnswersClean, WritesClean, WorksOnCommands, WorksIn, is_exact_status, status_of_result};
+ghost use Rattle.qls_top.specs.Complete.{NoneRose, Completes, CompletesShow};
 ghost use Rattle.qls_top.specs.Shows.{AnswersDamage, AnswersState, OnlyShows, TellsDamage, is_show_status};
 ghost use Rattle.qls_pool.specs.Files.{OnDisk};
 ghost use Rattle.qls_journals.specs.Moments.{StaysQuiet};
@@ -61,6 +62,9 @@ pub use words::{Job, parse_words, status_line};
 /// | 7 | exactly where byte 67,108,865 of the script was read |
 /// | 8 | only of a run, where the serials' count of faults rose |
 /// | 9 | only of a run: a command, or the opening, needed a further file, and no number or epoch below 2^62 was left for it, or neither an empty file nor an id; or a command needed a record id of the prepared list, and the last one was given |
+///
+/// So it is 0, or for want of memory 6, where no count of faults rose and none of these counters met its end, for a start that
+/// breaks no damage rule and a script within the limit.
 pub fn run<R: Source, S: Site, N: Serials>(
     alloc: Global,
     words: &[String],
@@ -89,6 +93,8 @@ pub fn run<R: Source, S: Site, N: Serials>(
     ensures site { result ≡ 5 → Rose (S.faults site.old) (S.faults site.new) }
     ensures serials { result ≡ 8 → Rose (N.faults serials.old) (N.faults serials.new) }
     ensures too_long { ReadsBytes (result == 7) (R.left source.old) (R.left source.new) }
+    ensures complete { NoneRose (S.faults site.old) (S.faults site.new) (R.faults source.old) (R.faults source.new) (N.faults serials.old) (N.faults serials.new) → IfRun (job_of (map string_bytes words.now)) (λ home. Completes result home (S.told site.old) (S.told site.new) (R.left source.old)) }
+    ensures complete_show { (Rose (S.faults site.old) (S.faults site.new) → ⊥) → IfShow (job_of (map string_bytes words.now)) (CompletesShow result (S.told site.old)) }
     ensures shown { result ≡ 0 → IfShow (job_of (map string_bytes words.now)) (Tells AnswersState (S.told site.old) (S.told site.new)) }
     ensures damaged { result ≡ 3 → Tells AnswersDamage (S.told site.old) (S.told site.new) }
     ensures damaged_start { IfSome (job_of (map string_bytes words.now)) (λ _. IfSome (S.told site.old) (TellsDamage result)) }

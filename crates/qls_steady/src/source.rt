@@ -1,0 +1,49 @@
+// A script in memory of which no read fails.
+ghost use Rattle.std.specs.Prelude.{◌≡◌};
+ghost use Rattle.qls_memsite.specs.Sources.{failing_of};
+
+use qls_memsite::MemSource;
+use qls_model::Bytes;
+use qls_site::{Source, SourceError};
+use std::alloc::Global;
+
+/// A script in memory of which no read is set to fail, and none can be set so. It tells what is left, and its count of faults is 0.
+#[derive(Drop)]
+pub struct SteadySource {
+    inner: MemSource,
+    ghost steady: { failing_of inner ≡ 0 },
+}
+
+impl SteadySource {
+    ghost use Rattle.std.specs.Prelude.{◌<◌, Some};
+    ghost use Rattle.qls_steady.specs.Steady.{left_in};
+
+    /// A script of these bytes that gives at most `piece` bytes a read; `piece` is at least 1.
+    pub fn new(alloc: Global, bytes: Bytes, piece: usize) -> SteadySource
+        requires some { 0 < piece }
+        ensures left { left_in result ≡ Some bytes }
+    {
+        SteadySource {
+            inner: MemSource::new(alloc, bytes, piece),
+        }
+    }
+}
+
+impl Source for SteadySource {
+    ghost use Rattle.std.specs.Prelude.{◌<◌, ◌≤◌, length, IfOk};
+    ghost use Rattle.qls_site.specs.Content.{Gives, Fails};
+    ghost use Rattle.qls_steady.specs.Steady.{left_in, source_faults};
+
+    ghost left = { left_in };
+
+    ghost faults = { source_faults };
+
+    fn read(&mut self, into: &mut [u8]) -> Result<usize, SourceError>
+        requires { 0 < length into.old }
+        ensures count { IfOk result (λ n. n ≤ length into.old) }
+        ensures gives { Gives (left_in self.old) (left_in self.new) into.new result }
+        ensures cause { Fails (source_faults self.old) (source_faults self.new) result }
+    {
+        self.inner.read(into)
+    }
+}
