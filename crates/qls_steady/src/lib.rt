@@ -1,5 +1,8 @@
-//! A run over sites, scripts and serials in memory on which no call fails: it comes to its end, but for want of memory, or for a
-//! counter that is spent.
+//! Runs where no call fails: over a site, a script and serials in memory that are set to fail nowhere a run comes to its end, but
+//! for want of memory, or where a command or the opening meets its end.
+//!
+//! [`SteadySite`], [`SteadySource`] and [`SteadySerials`] each hold one in memory of which no call is set to fail. None can be set so
+//! while they hold it, and so their count of faults is 0 for good. [`run_steadily`] runs a job over them.
 #![tactic(auto)]
 
 mod serials;

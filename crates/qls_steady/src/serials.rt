@@ -13,16 +13,29 @@ pub struct SteadySerials {
 }
 
 impl SteadySerials {
-    ghost use Rattle.std.specs.Prelude.{[], Some};
-    ghost use Rattle.qls_steady.specs.Steady.{drawn_in};
+    ghost use Rattle.qls_steady.specs.Steady.{serials_in};
 
-    /// Draws `first`, `first + 1` and so on; after 2^64 - 1 comes 0.
-    pub fn counting(first: u64) -> SteadySerials
-        ensures drawn { drawn_in result ≡ Some [] }
+    /// Holds these serials, of which no draw is set to fail.
+    pub fn new(serials: MemSerials) -> SteadySerials
+        requires steady { failing_of serials ≡ 0 }
+        ensures held { serials_in result ≡ serials }
     {
-        SteadySerials {
-            inner: MemSerials::counting(first),
-        }
+        SteadySerials { inner: serials }
+    }
+
+    /// The serials that it holds.
+    pub fn serials(&self) -> &MemSerials
+        ensures held { result.now ≡ serials_in self.now }
+    {
+        &self.inner
+    }
+
+    /// Gives the serials back. No draw of them is set to fail.
+    pub fn into_serials(self) -> MemSerials
+        ensures held { result ≡ serials_in self }
+        ensures steady { failing_of result ≡ 0 }
+    {
+        self.inner
     }
 }
 

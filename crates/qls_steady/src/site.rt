@@ -4,52 +4,41 @@ ghost use Rattle.qls_memsite.specs.Failures.{none_failing};
 ghost use Rattle.qls_memsite.specs.Memory.{set_to_fail};
 
 use qls_memsite::MemSite;
-use qls_model::{NoMemory, Seq};
-use qls_site::{FileAt, ImageFile, Place, Site, SiteError};
+use qls_model::Seq;
+use qls_site::{FileAt, Place, Site, SiteError};
 use std::alloc::Global;
 
 /// A site in memory on which no call is set to fail, and none can be set so. It tells its content, and its count of faults is 0.
 #[derive(Drop)]
 pub struct SteadySite {
-    pub(crate) inner: MemSite,
+    inner: MemSite,
     ghost steady: { set_to_fail inner ≡ none_failing },
 }
 
 impl SteadySite {
-    ghost use Rattle.std.specs.Prelude.{[], Some, IfOk};
-    ghost use Rattle.qls_site.specs.Disk.{IsQuiet};
-    ghost use Rattle.qls_memsite.specs.Log.{begun};
-    ghost use Rattle.qls_memsite.specs.Seen.{IdsDiffer, by_id};
-    ghost use Rattle.qls_steady.specs.Steady.{content_in, told_in};
+    ghost use Rattle.qls_steady.specs.Steady.{site_in};
 
-    /// An empty site. Nothing is pending.
-    #[tactic(auto, using(crate::proofs::Resting::begins_quietly))]
-    pub fn new(alloc: Global) -> SteadySite
-        ensures told { told_in result ≡ Some (begun []) }
-        ensures quiet { IsQuiet (content_in result).now.disk }
+    /// Holds this site, on which no call is set to fail.
+    pub fn new(site: MemSite) -> SteadySite
+        requires steady { set_to_fail site ≡ none_failing }
+        ensures held { site_in result ≡ site }
     {
-        SteadySite {
-            inner: MemSite::new(alloc),
-        }
+        SteadySite { inner: site }
     }
 
-    /// A site that begins on these files, sorted by id, with nothing pending. No two have the same id.
-    #[tactic(auto, using(crate::proofs::Resting::begins_quietly))]
-    pub fn from_image(alloc: Global, files: Seq<ImageFile>) -> Result<SteadySite, NoMemory>
-        requires differ { IdsDiffer files }
-        ensures told { IfOk result (λ site. told_in site ≡ Some (begun (by_id files))) }
-        ensures quiet { IfOk result (λ site. IsQuiet (content_in site).now.disk) }
+    /// The site that it holds.
+    pub fn site(&self) -> &MemSite
+        ensures held { result.now ≡ site_in self.now }
     {
-        Ok(SteadySite {
-            inner: MemSite::from_image(alloc, files)?,
-        })
+        &self.inner
     }
 
-    /// The bytes answered so far.
-    pub fn answered(&self) -> &[u8]
-        ensures answered { result.now ≡ (content_in self.now).now.answered }
+    /// Gives the site back. No call on it is set to fail.
+    pub fn into_site(self) -> MemSite
+        ensures held { result ≡ site_in self }
+        ensures steady { set_to_fail result ≡ none_failing }
     {
-        self.inner.answered()
+        self.inner
     }
 }
 

@@ -3,9 +3,7 @@ ghost use Rattle.std.specs.Prelude.{◌≡◌};
 ghost use Rattle.qls_memsite.specs.Sources.{failing_of};
 
 use qls_memsite::MemSource;
-use qls_model::Bytes;
 use qls_site::{Source, SourceError};
-use std::alloc::Global;
 
 /// A script in memory of which no read is set to fail, and none can be set so. It tells what is left, and its count of faults is 0.
 #[derive(Drop)]
@@ -15,17 +13,29 @@ pub struct SteadySource {
 }
 
 impl SteadySource {
-    ghost use Rattle.std.specs.Prelude.{◌<◌, Some};
-    ghost use Rattle.qls_steady.specs.Steady.{left_in};
+    ghost use Rattle.qls_steady.specs.Steady.{source_in};
 
-    /// A script of these bytes that gives at most `piece` bytes a read; `piece` is at least 1.
-    pub fn new(alloc: Global, bytes: Bytes, piece: usize) -> SteadySource
-        requires some { 0 < piece }
-        ensures left { left_in result ≡ Some bytes }
+    /// Holds this script, of which no read is set to fail.
+    pub fn new(source: MemSource) -> SteadySource
+        requires steady { failing_of source ≡ 0 }
+        ensures held { source_in result ≡ source }
     {
-        SteadySource {
-            inner: MemSource::new(alloc, bytes, piece),
-        }
+        SteadySource { inner: source }
+    }
+
+    /// The script that it holds.
+    pub fn source(&self) -> &MemSource
+        ensures held { result.now ≡ source_in self.now }
+    {
+        &self.inner
+    }
+
+    /// Gives the script back. No read of it is set to fail.
+    pub fn into_source(self) -> MemSource
+        ensures held { result ≡ source_in self }
+        ensures steady { failing_of result ≡ 0 }
+    {
+        self.inner
     }
 }
 

@@ -1,9 +1,11 @@
 // Runs where no call fails, and what they answer.
 ghost use Rattle.std.specs.Prelude.{◌≡◌, IfOk};
 ghost use Rattle.qls_site.specs.Disk.{IsQuiet};
+ghost use Rattle.qls_memsite.specs.Seen.{IdsDiffer};
 ghost use Rattle.qls_steady.specs.Steady.{content_in};
 
 use crate::{SteadySerials, SteadySite, SteadySource, run_steadily};
+use qls_memsite::{MemSerials, MemSite, MemSource};
 use qls_model::{Bytes, Seq};
 use qls_site::{ImageFile, Place};
 use std::alloc::Global;
@@ -19,53 +21,69 @@ fn words_of(alloc: Global, line: &str) -> Result<Vec<String>, Fail> {
     Ok(words)
 }
 
-// A run of these words on a script that is read in pieces of nine bytes ends with this status, and this is answered.
+// A site without a file.
+#[tactic(auto, using(crate::proofs::Resting::begins_quietly))]
+fn new_site(alloc: Global) -> SteadySite
+    ensures quiet { IsQuiet (content_in result).now.disk }
+{
+    SteadySite::new(MemSite::new(alloc))
+}
+
+// A site that begins on these files.
+#[tactic(auto, using(crate::proofs::Resting::begins_quietly))]
+fn site_on(alloc: Global, files: Seq<ImageFile>) -> Result<SteadySite, Fail>
+    requires differ { IdsDiffer files }
+    ensures quiet { IfOk result (λ site. IsQuiet (content_in site).now.disk) }
+{
+    Ok(SteadySite::new(MemSite::from_image(alloc, files)?))
+}
+
+// A run of these words on a script that is read in pieces of nine bytes ends with this status, and just this is answered.
 fn check_run(
     rt: &impl Abort,
     alloc: Global,
     words: &str,
-    script: &[u8],
+    script: &str,
     site: &mut SteadySite,
     status: u8,
-    text: &[u8],
+    text: &str,
 ) -> Result<(), Fail>
     requires quiet { IsQuiet (content_in site.old).now.disk }
     ensures rests { IfOk result (λ _. status ≡ 0 → IsQuiet (content_in site.new).now.disk) }
 {
     let words = words_of(alloc, words)?;
-    let mut source = SteadySource::new(alloc, Bytes::new(alloc, script)?, 9);
-    let mut serials = SteadySerials::counting(7);
-    let before = site.answered().len();
+    let script = Bytes::new(alloc, script.as_bytes())?;
+    let mut source = SteadySource::new(MemSource::new(alloc, script, 9));
+    let mut serials = SteadySerials::new(MemSerials::counting(7));
+    let before = site.site().answered().len();
     let ended = run_steadily(alloc, &words, &mut source, site, &mut serials);
     assert_eq!(rt; ended, status);
-    assert_eq!(rt; site.answered().get(before..), Some(text));
+    assert_eq!(rt; site.site().answered().get(before..), Some(text.as_bytes()));
     Ok(())
 }
 
 #[test]
-fn a_run_and_a_show_come_to_their_end(rt: HostRuntime) -> Result<(), Fail> {
+fn a_run_comes_to_its_end(rt: HostRuntime) -> Result<(), Fail> {
     let alloc = rt.alloc();
-    let mut site = SteadySite::new(alloc);
-    let script = b"queue a\nput a 6869\nbegin 01\ntake a 1 in 01\nprepare 01\n";
-    let replies = b"ok\nok 1\nok\nok\nok\n";
-    check_run(&rt, alloc, "d run 1 4", script, &mut site, 0, replies)?;
-    let state = b"queues 1\nqueue a last 1 messages 1\n1 going 01 6869\ndoubt 1\n01\n";
-    check_run(&rt, alloc, "d show", b"", &mut site, 0, state)?;
-    check_run(&rt, alloc, "d run 1 4", b"commit 01\n", &mut site, 0, b"ok\n")?;
-    let state = b"queues 1\nqueue a last 1 messages 0\ndoubt 0\n";
-    check_run(&rt, alloc, "d show", b"", &mut site, 0, state)
+    let mut site = new_site(alloc);
+    let script = "queue a\nput a 6869\nput b 01\nnothing\ntake a 1\n";
+    let replies = "ok\nok 1\nrefused queue\nrefused line\nok\n";
+    check_run(&rt, alloc, "d run 1 4", script, &mut site, 0, replies)
 }
 
 #[test]
-fn words_that_ask_for_nothing_are_refused(rt: HostRuntime) -> Result<(), Fail> {
+fn a_show_comes_to_its_end(rt: HostRuntime) -> Result<(), Fail> {
     let alloc = rt.alloc();
-    let mut site = SteadySite::new(alloc);
-    check_run(&rt, alloc, "d walk", b"queue a\n", &mut site, 2, b"")
+    let mut site = new_site(alloc);
+    let script = "queue a\nput a 6869\n";
+    check_run(&rt, alloc, "d run 1 4", script, &mut site, 0, "ok\nok 1\n")?;
+    let state = "queues 1\nqueue a last 1 messages 1\n1 ready 6869\ndoubt 0\n";
+    check_run(&rt, alloc, "d show", script, &mut site, 0, state)
 }
 
 // The size of the file isn't that of its pool.
 #[test]
-fn a_damaged_store_is_told(rt: HostRuntime) -> Result<(), Fail> {
+fn a_damaged_start_is_told(rt: HostRuntime) -> Result<(), Fail> {
     let alloc = rt.alloc();
     let mut files = Seq::new(alloc);
     files.push(ImageFile {
@@ -73,7 +91,7 @@ fn a_damaged_store_is_told(rt: HostRuntime) -> Result<(), Fail> {
         place: Place::Empty { part: 1, kib: 4 },
         bytes: Bytes::from_vec(Vec::from_elem(alloc, 0, 8_704)?),
     })?;
-    let mut site = SteadySite::from_image(alloc, files)?;
-    let line = b"damaged file 1 rule pool\n";
-    check_run(&rt, alloc, "d run 1 4", b"queue a\n", &mut site, 3, line)
+    let mut site = site_on(alloc, files)?;
+    let line = "damaged file 1 rule pool\n";
+    check_run(&rt, alloc, "d run 1 4", "queue a\n", &mut site, 3, line)
 }
