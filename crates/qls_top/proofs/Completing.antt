@@ -1,6 +1,5 @@
--- A run or a show that ended early did so for one of its causes.
-use Rattle.std.proofs.Common.{◌≡◌, ◌⊎◌, inl, inr, ℕ, ◌≤◌, true, List, length, Option, Some, None, Result, Ok, Err, IsOk, refl, sym, ap, subst, arith}
-use Rattle.std.proofs.lemmas.Bool.Decides.{nat_tests}
+-- A run that ended early did so for one of its causes.
+use Rattle.std.proofs.Common.{◌≡◌, inr, ℕ, true, List, Option, Some, None, Result, Err, IsOk, refl, arith}
 use Rattle.qls_model.specs.declared.machine.PoolId.{PoolId}
 use Rattle.qls_model.specs.Machine.{MachineState}
 use Rattle.qls_site.specs.Disk.{full}
@@ -11,25 +10,25 @@ use Rattle.qls_top.specs.declared.fault.Fault.{Fault}
 use Rattle.qls_top.specs.declared.fault.Fault.TheVariants as fault
 use Rattle.qls_top.specs.Status.{status_of}
 use Rattle.qls_top.specs.Run.{EndsSpent, ReadsBytes, is_too_long}
-use Rattle.qls_top.specs.Shows.{AnswersDamage, is_show_status}
-use Rattle.qls_top.specs.Complete.{NoneRose, MeansSome, IsShort, IsComplete, Completes, CompletesShow}
+use Rattle.qls_top.specs.Shows.{AnswersDamage}
+use Rattle.qls_top.specs.Complete.{NoneRose, MeansSome, IsShort, Completes}
 
 -- ---- no damage, and no byte too many
 
 not_damaged : (r : Result MachineState Damage) (d : Damage) → IsOk r → r ≡ Err d → ⊥
 not_damaged r d ok e = cc
 
-pub undamaged : (old new : Option Content) → MeansSome old → Tells AnswersDamage old new → ⊥
+undamaged : (old new : Option Content) → MeansSome old → Tells AnswersDamage old new → ⊥
 undamaged None new means h = means
 undamaged (Some x) None means h = h
 undamaged (Some x) (Some y) means h = not_damaged (meaning (full x.now.disk)) h.damage means h.means
 
-pub within : (script left : Option (List ℕ)) → IsShort script → ReadsBytes true script left → ⊥
+within : (script left : Option (List ℕ)) → IsShort script → ReadsBytes true script left → ⊥
 within None left short h = short
 within (Some l) None short h = h
 within (Some l) (Some m) short h = omega (arith, short, h)
 
--- ---- a run
+-- ---- each fault has its cause
 
 -- the run ended by this fault
 abbrev IsBy : Fault → Fault → Type 0
@@ -44,17 +43,3 @@ run_completes fault.Memory home old new script left s t r u d e source site draw
 run_completes fault.TooLong home old new script left s t r u d e source site draw long damaged spent none means short ended = absurd (within script left short long)
 run_completes fault.Draw home old new script left s t r u d e source site draw long damaged spent none means short ended = absurd (none.serials (draw refl))
 run_completes fault.Spent home old new script left s t r u d e source site draw long damaged spent none means short ended = absurd (ended (spent refl))
-
--- ---- a show
-
-pub show_completes : (n : ℕ) (old new : Option Content) (s t : ℕ) → is_show_status n ≡ true → (n ≡ 3 → Tells AnswersDamage old new) → (n ≡ 5 → Rose s t) → (Rose s t → ⊥) → CompletesShow n old
-show_completes n old new s t is damaged site none means = by (one_of n is)
-  where
-    one_of : (n : ℕ) → is_show_status n ≡ true → (n ≡ 0) ⊎ ((n ≡ 3) ⊎ ((n ≡ 5) ⊎ (n ≡ 6)))
-    one_of n is = grind (arith, nat_tests, is)
-
-    by : (n ≡ 0) ⊎ ((n ≡ 3) ⊎ ((n ≡ 5) ⊎ (n ≡ 6))) → IsComplete n
-    by (inl e) = inl e
-    by (inr (inl e)) = absurd (undamaged old new means (damaged e))
-    by (inr (inr (inl e))) = absurd (none (site e))
-    by (inr (inr (inr e))) = inr e

@@ -1,7 +1,6 @@
-use Rattle.std.proofs.Common.{◌≡◌, ℕ, Option, Some, sym, ap, ◌∙◌, subst}
+use Rattle.std.proofs.Common.{ℕ, Option, Some, sym, ap, ◌∙◌, subst}
 use Rattle.qls_pool.specs.Serials.{DrawsTaken}
 use Rattle.qls_top.specs.declared.words.Job.{Job}
-use Rattle.qls_top.specs.declared.words.Job.TheVariants.{Run}
 use Rattle.qls_top.specs.Complete.{Completes}
 use Rattle.qls_top.specs.Run.{IfRun, is_exact_status}
 use Rattle.qls_top.proofs.Completing.{run_completes}
