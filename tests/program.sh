@@ -10,6 +10,10 @@ room=$(mktemp -d) || exit 1
 trap 'chmod -R u+rwx "$room" 2>/dev/null; umount "$room/small" 2>/dev/null; rm -rf "$room"' EXIT
 cd "$room" || exit 1
 
+# The program is built before the first run, since each run has a limit of time.
+"$qls" </dev/null >/dev/null 2>build.txt
+[ $? -eq 2 ] || { cat build.txt; exit 1; }
+
 passed=0
 failed=0
 skipped=0
